@@ -1,0 +1,4 @@
+pub mod ColumnLaws
+pub mod EntryPlaces
+pub mod Pieces
+pub mod RowPlaces
