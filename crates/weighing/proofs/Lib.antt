@@ -1,0 +1,4 @@
+pub mod Events
+pub mod Claims
+pub mod Asking
+pub mod Scaling

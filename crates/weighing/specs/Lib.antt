@@ -1,0 +1,6 @@
+pub mod First
+pub mod Weight
+pub mod Weighed
+pub mod Claim
+pub mod Scaled
+pub mod Asked
