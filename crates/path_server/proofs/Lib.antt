@@ -1,0 +1,7 @@
+pub mod AdmissionLaws
+pub mod Flows
+pub mod Measures
+pub mod RuleLaws
+pub mod ScaleLaws
+pub mod Sizes
+pub mod Totals

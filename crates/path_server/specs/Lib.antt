@@ -1,0 +1,6 @@
+pub mod Limits
+pub mod Shapes
+pub mod Claims
+pub mod Scales
+pub mod Rules
+pub mod Places

@@ -1,0 +1,95 @@
+-- The order in which a run is examined: by rows, in a row by rules, in a rule by flows, and what is found first.
+use Rattle.std.specs.Prelude.{◌≡◌, ℕ, ◌+◌, Bool, true, false, Result, Ok, Err, List, [], ◌∷◌, ◌++◌, All, map, length, flat_map}
+use Rattle.whole.specs.declared.answers.Stuck.{Stuck}
+use Rattle.weighing.specs.First.{below, first}
+use Rattle.weighing.specs.Claim.{outcome}
+use Rattle.run_rows.specs.declared.rows.Run.{Run}
+use Rattle.path_server.specs.Claims.{claim_of, flows_of}
+use Rattle.path_server.specs.Rules.{RuleHolds}
+use Rattle.path_server.specs.declared.settings.Path.{Path}
+use Rattle.path_server.specs.declared.admission.Admit.{Admit}
+use Rattle.path_server.specs.declared.admission.Admit.TheVariants.{Yes, Broken, Wide}
+use Rattle.path_server.specs.declared.path_rules.PathRule.{PathRule}
+use Rattle.path_server.specs.declared.path_rules.PathRule.TheVariants.{Start, Growth, Service, Ceiling, Floor, Waste, Acceptance, Buffer, Loss, WasteRate}
+
+-- where a rule is asked: at a row, for a flow or, under flow 0, for the path as a whole
+pub record Place : Type 0 where
+  pub row : ℕ
+  pub rule : PathRule
+  pub flow : ℕ
+
+abbrev pub at_place : ℕ → PathRule → ℕ → Place
+at_place i rule f = record { row = i; rule = rule; flow = f }
+
+abbrev pub rules : List PathRule
+rules = Start ∷ Growth ∷ Service ∷ Ceiling ∷ Floor ∷ Waste ∷ Acceptance ∷ Buffer ∷ Loss ∷ WasteRate ∷ []
+
+-- the number that names a rule
+abbrev pub number : PathRule → ℕ
+number Start = 0
+number Growth = 1
+number Service = 2
+number Ceiling = 3
+number Floor = 4
+number Waste = 5
+number Acceptance = 6
+number Buffer = 7
+number Loss = 8
+number WasteRate = 9
+
+-- the places of a rule at a row, of a row, and of the whole run, in their order
+unfoldable pub places_of_rule : Run → ℕ → PathRule → List Place
+places_of_rule r i rule = map (at_place i rule) (below (flows_of r + 1))
+
+unfoldable pub places_of_row : Run → ℕ → List Place
+places_of_row r i = flat_map (places_of_rule r i) rules
+
+unfoldable pub places : Run → List Place
+places r = flat_map (places_of_row r) (below (length r.rows))
+
+-- a place where nothing is amiss is passed; else a weighing passes there, or the rule is broken
+abbrev pub stop_at : Place → Result Bool Stuck → Result (Unit {0}) Admit
+stop_at place (Ok true) = Ok tt
+stop_at place (Ok false) = Err (Broken (number place.rule) place.row place.flow)
+stop_at place (Err stuck) = Err (Wide stuck)
+
+unfoldable pub examined : Path → Run → Place → Result (Unit {0}) Admit
+examined p r place = stop_at place (outcome place.row (claim_of p r place.rule place.row place.flow))
+
+abbrev pub answer : Result (Unit {0}) Admit → Admit
+answer (Ok _) = Yes
+answer (Err stop) = stop
+
+-- what is found first
+unfoldable pub admission : Path → Run → Admit
+admission p r = answer (first (examined p r) (places r))
+
+-- the weighing of some comparison of the place is stuck there
+abbrev pub IsStuckAt : Path → Run → Place → Stuck → Type 0
+IsStuckAt p r place stuck = outcome place.row (claim_of p r place.rule place.row place.flow) ≡ Err stuck
+
+abbrev pub HoldsAt : Path → Run → Place → Type 0
+HoldsAt p r place = RuleHolds p r place.rule place.row place.flow
+
+-- the rule of that number is broken at row i for flow f, and every rule holds at every place before
+pub record IsFirstBroken (p : Path) (r : Run) (rule i f : ℕ) : Type 0 where
+  pub before : List Place
+  pub broken : PathRule
+  pub after : List Place
+  pub numbered : number broken ≡ rule
+  pub parts : places r ≡ before ++ at_place i broken f ∷ after
+  pub held : All (HoldsAt p r) before
+  pub breaks : RuleHolds p r broken i f → ⊥
+
+-- a weighing is stuck at a place, and every rule holds at every place before
+pub record IsFirstWide (p : Path) (r : Run) (stuck : Stuck) : Type 0 where
+  pub before : List Place
+  pub place : Place
+  pub after : List Place
+  pub parts : places r ≡ before ++ place ∷ after
+  pub held : All (HoldsAt p r) before
+  pub passes : IsStuckAt p r place stuck
+
+-- no weighing is stuck anywhere
+abbrev pub NothingPasses : Path → Run → Type 0
+NothingPasses p r = All (λ place. (stuck : Stuck) → IsStuckAt p r place stuck → ⊥) (places r)

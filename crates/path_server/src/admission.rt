@@ -1,0 +1,99 @@
+ghost use Rattle.std.specs.Prelude.{◌≡◌, ◌<◌, ◌≤◌, ℕ, length};
+ghost use Rattle.whole.specs.declared.answers.Stuck.{Stuck};
+ghost use Rattle.run_rows.specs.Runs.{IsRun};
+ghost use Rattle.path_server.specs.Claims.{flows_of};
+ghost use Rattle.path_server.specs.Limits.{IsPath};
+ghost use Rattle.path_server.specs.Places.{IsFirstBroken, IsFirstWide, NothingPasses, admission, at_place, examined, places, places_of_row, places_of_rule};
+ghost use Rattle.path_server.specs.Rules.{Admitted};
+ghost use Rattle.weighing.specs.First.{first};
+
+use crate::entries::{flow_count, row_count};
+use crate::path_rules::PathRule;
+use crate::settings::Path;
+use run_rows::Run;
+use whole::Stuck;
+
+/// Whether a path admits a run.
+#[derive(Clone, Copy, Debug, PartialEq, Eq)]
+pub enum Admit {
+    /// Every rule holds at every row.
+    Yes,
+    /// The first broken rule, 0 to 9, with its row, and its flow or 0.
+    Broken { rule: u8, row: u32, flow: u32 },
+    /// A comparison came before any broken rule whose exact weighing passes 128 bits.
+    Wide(Stuck),
+}
+
+/// Whether the path admits the run: by rows, in a row by rules, in a rule by flows. It takes no memory.
+pub fn admits(path: &Path, run: &Run) -> Admit
+    requires path_in { IsPath path.now }
+    requires run_in { IsRun run.now }
+    ensures exact { result ≡ admission path.now run.now }
+    ensures admitted { result ≡ Admit.Yes → Admitted path.now run.now }
+    ensures complete { Admitted path.now run.now → NothingPasses path.now run.now → result ≡ Admit.Yes }
+    ensures broken { (rule row flow : ℕ) → result ≡ Admit.Broken rule row flow → IsFirstBroken path.now run.now rule row flow }
+    ensures wide { (stuck : Stuck) → result ≡ Admit.Wide stuck → IsFirstWide path.now run.now stuck }
+{
+    match examine(path, run) {
+        Ok(()) => Admit::Yes,
+        Err(stop) => stop,
+    }
+}
+
+/// The rows in order.
+fn examine(path: &Path, run: &Run) -> Result<(), Admit>
+    requires path_in { IsPath path.now }
+    requires run_in { IsRun run.now }
+    ensures { result ≡ first (examined path.now run.now) (places run.now) }
+{
+    for row in 0..row_count(run) {
+        examine_row(path, run, row)?;
+    }
+    Ok(())
+}
+
+/// The rules of a row in order.
+fn examine_row(path: &Path, run: &Run, row: u32) -> Result<(), Admit>
+    requires path_in { IsPath path.now }
+    requires run_in { IsRun run.now }
+    requires row_in { row < length run.now.rows }
+    ensures { result ≡ first (examined path.now run.now) (places_of_row run.now row) }
+{
+    for rule in PathRule::ALL {
+        examine_rule(path, run, rule, row)?;
+    }
+    Ok(())
+}
+
+/// A rule at a row: for the path as a whole, then for each flow.
+fn examine_rule(path: &Path, run: &Run, rule: PathRule, row: u32) -> Result<(), Admit>
+    requires path_in { IsPath path.now }
+    requires run_in { IsRun run.now }
+    requires row_in { row < length run.now.rows }
+    ensures { result ≡ first (examined path.now run.now) (places_of_rule run.now row rule) }
+{
+    for flow in 0..flow_count(run) + 1 {
+        examine_place(path, run, rule, row, flow)?;
+    }
+    Ok(())
+}
+
+/// A rule at a row for a flow or, under flow 0, for the path as a whole.
+#[tactic(auto, unfolding(crate::specs::Places::examined))]
+fn examine_place(path: &Path, run: &Run, rule: PathRule, row: u32, flow: u32) -> Result<(), Admit>
+    requires path_in { IsPath path.now }
+    requires run_in { IsRun run.now }
+    requires row_in { row < length run.now.rows }
+    requires flow_in { flow ≤ flows_of run.now }
+    ensures { result ≡ examined path.now run.now (at_place row rule flow) }
+{
+    match rule.outcome(path, run, row, flow) {
+        Ok(true) => Ok(()),
+        Ok(false) => Err(Admit::Broken {
+            rule: rule.number(),
+            row,
+            flow,
+        }),
+        Err(stuck) => Err(Admit::Wide(stuck)),
+    }
+}

@@ -1,0 +1,134 @@
+//! The rules that compare the entries of one flow, or the waste, with each other: no rate and no buffer is in them.
+ghost use Rattle.std.specs.Prelude.{◌≡◌, ◌<◌, ◌≤◌, ◌-◌, length};
+ghost use Rattle.run_rows.specs.Runs.{IsEntry, IsRun, waste};
+ghost use Rattle.weighing.specs.Claim.{both_of, outcome};
+ghost use Rattle.path_server.specs.Claims.{acceptance_claim, flows_of, growth_claim, is_zero, no_fall, not_negative, service_claim, start_claim};
+
+use crate::entries::{entries, waste};
+use run_rows::{FlowRow, Run};
+use weighing::{Rel5, Term, both, compare};
+use whole::Stuck;
+
+/// `P0`.
+#[tactic(auto, using(whole::proofs::Passing::signed), unfolding(crate::specs::Claims::start_claim))]
+pub fn start(run: &Run, row: u32, flow: u32) -> Result<bool, Stuck>
+    requires run_in { IsRun run.now }
+    requires row_in { row < length run.now.rows }
+    requires flow_in { flow ≤ flows_of run.now }
+    ensures { result ≡ outcome row (start_claim run.now row flow) }
+{
+    if row > 0 {
+        return Ok(true);
+    }
+    if flow == 0 {
+        return path_starts_empty(run);
+    }
+    flow_starts_empty(entries(run, 0, flow))
+}
+
+fn path_starts_empty(run: &Run) -> Result<bool, Stuck>
+    requires run_in { IsRun run.now }
+    requires row_in { 0 < length run.now.rows }
+    ensures { result ≡ outcome 0 (both_of (is_zero (waste run.now 0)) (not_negative run.now.credit)) }
+{
+    let wasted = compare(0, &[Term(1, waste(run, 0))], Rel5::Equal);
+    let credit = compare(0, &[Term(1, run.credit)], Rel5::AtLeast);
+    both(wasted, credit)
+}
+
+fn flow_starts_empty(now: &FlowRow) -> Result<bool, Stuck>
+    requires a_in { IsEntry now.now.a }
+    requires s_in { IsEntry now.now.s }
+    requires l_in { IsEntry now.now.l }
+    ensures { result ≡ outcome 0 (both_of (is_zero now.now.s) (both_of (is_zero now.now.l) (not_negative now.now.a))) }
+{
+    let served = compare(0, &[Term(1, now.s)], Rel5::Equal);
+    let lost = compare(0, &[Term(1, now.l)], Rel5::Equal);
+    let arrived = compare(0, &[Term(1, now.a)], Rel5::AtLeast);
+    both(served, both(lost, arrived))
+}
+
+/// `P1`.
+#[tactic(auto, using(whole::proofs::Passing::signed), unfolding(crate::specs::Claims::growth_claim))]
+pub fn growth(run: &Run, row: u32, flow: u32) -> Result<bool, Stuck>
+    requires run_in { IsRun run.now }
+    requires row_in { row < length run.now.rows }
+    requires flow_in { flow ≤ flows_of run.now }
+    ensures { result ≡ outcome row (growth_claim run.now row flow) }
+{
+    if row == 0 {
+        return Ok(true);
+    }
+    if flow == 0 {
+        return path_grows(run, row);
+    }
+    flow_grows(row, entries(run, row - 1, flow), entries(run, row, flow))
+}
+
+fn path_grows(run: &Run, row: u32) -> Result<bool, Stuck>
+    requires run_in { IsRun run.now }
+    requires row_from { 0 < row }
+    requires row_in { row < length run.now.rows }
+    ensures { result ≡ outcome row (no_fall (waste run.now (row - 1)) (waste run.now row)) }
+{
+    let terms = [Term(1, waste(run, row)), Term(-1, waste(run, row - 1))];
+    compare(row, &terms, Rel5::AtLeast)
+}
+
+fn flow_grows(row: u32, old: &FlowRow, new: &FlowRow) -> Result<bool, Stuck>
+    requires old_a { IsEntry old.now.a }
+    requires old_s { IsEntry old.now.s }
+    requires old_l { IsEntry old.now.l }
+    requires new_a { IsEntry new.now.a }
+    requires new_s { IsEntry new.now.s }
+    requires new_l { IsEntry new.now.l }
+    ensures { result ≡ outcome row (both_of (no_fall old.now.a new.now.a) (both_of (no_fall old.now.s new.now.s) (no_fall old.now.l new.now.l))) }
+{
+    let arrived = compare(row, &[Term(1, new.a), Term(-1, old.a)], Rel5::AtLeast);
+    let served = compare(row, &[Term(1, new.s), Term(-1, old.s)], Rel5::AtLeast);
+    let lost = compare(row, &[Term(1, new.l), Term(-1, old.l)], Rel5::AtLeast);
+    both(arrived, both(served, lost))
+}
+
+/// `P2`.
+#[tactic(auto, using(whole::proofs::Passing::signed), unfolding(crate::specs::Claims::service_claim))]
+pub fn service(run: &Run, row: u32, flow: u32) -> Result<bool, Stuck>
+    requires run_in { IsRun run.now }
+    requires row_in { row < length run.now.rows }
+    requires flow_in { flow ≤ flows_of run.now }
+    ensures { result ≡ outcome row (service_claim run.now row flow) }
+{
+    if flow == 0 {
+        return Ok(true);
+    }
+    let now = entries(run, row, flow);
+    compare(
+        row,
+        &[Term(1, now.a), Term(-1, now.l), Term(-1, now.s)],
+        Rel5::AtLeast,
+    )
+}
+
+/// `P6`.
+#[tactic(auto, using(whole::proofs::Passing::signed), unfolding(crate::specs::Claims::acceptance_claim))]
+pub fn acceptance(run: &Run, row: u32, flow: u32) -> Result<bool, Stuck>
+    requires run_in { IsRun run.now }
+    requires row_in { row < length run.now.rows }
+    requires flow_in { flow ≤ flows_of run.now }
+    ensures { result ≡ outcome row (acceptance_claim run.now row flow) }
+{
+    if row == 0 || flow == 0 {
+        return Ok(true);
+    }
+    let (old, new) = (entries(run, row - 1, flow), entries(run, row, flow));
+    compare(
+        row,
+        &[
+            Term(1, new.a),
+            Term(-1, new.l),
+            Term(-1, old.a),
+            Term(1, old.l),
+        ],
+        Rel5::AtLeast,
+    )
+}
