@@ -1,0 +1,45 @@
+ghost use Rattle.std.specs.Prelude.{◌≡◌, ℕ, ◌<◌, ◌≤◌, List, None, length};
+
+use crate::ports::{PutFault, Sink};
+use std::alloc::Global;
+
+/// The standard output. It doesn't tell the text that it got.
+#[derive(Drop)]
+pub struct RealSink<'a, R: Print> {
+    rt: &'a R,
+    faults: u64,
+}
+
+impl<'a, R: Print> RealSink<'a, R> {
+    ghost use Rattle.ccac_ports.specs.RealSink.{faults};
+
+    /// The output that the runtime prints to.
+    pub fn new(rt: &'a R) -> RealSink<'a, R>
+        ensures { faults result ≡ 0 }
+    {
+        RealSink { rt, faults: 0 }
+    }
+}
+
+impl<'a, R: Print> Sink for RealSink<'a, R> {
+    ghost use Rattle.std.specs.Prelude.{None};
+    ghost use Rattle.ccac_ports.specs.RealSink.{faults};
+
+    ghost text = { λ _. None };
+
+    ghost faults = { faults };
+
+    fn put(&mut self, bytes: &[u8]) -> Result<(), PutFault> {
+        let mut rest = bytes;
+        while !rest.is_empty() {
+            match self.rt.write_some(rest) {
+                Ok(written) if written > 0 => rest = &rest[written..],
+                _ => {
+                    self.faults = self.faults.saturating_add(1);
+                    return Err(PutFault::Failed);
+                }
+            }
+        }
+        Ok(())
+    }
+}

@@ -1,0 +1,133 @@
+ghost use Rattle.std.specs.Prelude.{◌≡◌, ℕ, ◌≤◌, List, ◌++◌, length, take};
+ghost use Rattle.ccac_ports.specs.Ports.{HasRisen, Tells, Appends};
+ghost use Rattle.ccac_ports.specs.declared.tests.Joined.{Joined};
+
+use super::*;
+use std::fs;
+use std::test::Fail;
+
+/// What came of joining two files into a sink.
+#[derive(Clone, Copy, Debug, PartialEq, Eq)]
+enum Joined {
+    Whole,
+    FirstFailed,
+    SecondFailed,
+    TooLong,
+    PutFailed,
+    NoMemory,
+}
+
+/// Fetches two files and puts the one after the other: what the program does with its files, over
+/// any folder and any sink, by the clauses of the traits alone.
+fn join<F: Folder, S: Sink>(folder: &mut F, sink: &mut S, names: (&str, &str), limit: u64) -> Joined
+    ensures whole { result ≡ Joined.Whole → ((one : List ℕ) × ((two : List ℕ) ×
+        (Tells (F.content folder.old names.entry.0.now) one
+        × Tells (F.content folder.old names.entry.1.now) two
+        × Appends (S.text sink.old) (S.text sink.new) (one ++ two)))) }
+    ensures first { result ≡ Joined.FirstFailed →
+        HasRisen (F.faults folder.old names.entry.0.now) (F.faults folder.new names.entry.0.now) }
+    ensures second { result ≡ Joined.SecondFailed →
+        HasRisen (F.faults folder.old names.entry.1.now) (F.faults folder.new names.entry.1.now) }
+    ensures put { result ≡ Joined.PutFailed → HasRisen (S.faults sink.old) (S.faults sink.new) }
+    ensures part { (report : List ℕ) × ((n : ℕ) × Appends (S.text sink.old) (S.text sink.new) (take n report)) }
+{
+    let one = match folder.fetch(names.0, limit) {
+        Ok(one) => one,
+        Err(FetchFault::Failed) => return Joined::FirstFailed,
+        Err(FetchFault::TooLong) => return Joined::TooLong,
+        Err(FetchFault::NoMemory) => return Joined::NoMemory,
+    };
+    let two = match folder.fetch(names.1, limit) {
+        Ok(two) => two,
+        Err(FetchFault::Failed) => return Joined::SecondFailed,
+        Err(FetchFault::TooLong) => return Joined::TooLong,
+        Err(FetchFault::NoMemory) => return Joined::NoMemory,
+    };
+    let mut report = one;
+    if report.extend_from_slice(two.as_slice()).is_err() {
+        return Joined::NoMemory;
+    }
+    match sink.put(report.as_slice()) {
+        Ok(()) => Joined::Whole,
+        Err(PutFault::Failed) => Joined::PutFailed,
+        Err(PutFault::NoMemory) => Joined::NoMemory,
+    }
+}
+
+#[test]
+fn a_folder_gives_what_was_added_and_fails_where_planned(rt: HostRuntime) -> Result<(), Fail> {
+    let mut folder = MemFolder::new(rt.alloc());
+    assert_eq!(rt; folder.add("a", b"one"), Ok(()));
+    assert_eq!(rt; folder.add("a", b"three"), Ok(()));
+    assert_eq!(rt; folder.fail_at(2), Ok(()));
+    assert_eq!(rt; folder.fetch("a", 5)?.as_slice(), b"three".as_slice());
+    assert_eq!(rt; folder.fetch("a", 5), Err(FetchFault::Failed));
+    assert_eq!(rt; folder.fetch("a", 4), Err(FetchFault::TooLong));
+    assert_eq!(rt; folder.fetch("b", 5), Err(FetchFault::Failed));
+    assert_eq!(rt; folder.fetch("a", 5)?.as_slice(), b"three".as_slice());
+    Ok(())
+}
+
+#[test]
+fn a_sink_keeps_a_part_where_planned(rt: HostRuntime) -> Result<(), Fail> {
+    let mut sink = MemSink::new(rt.alloc());
+    assert_eq!(rt; sink.fail_at(2, 9), Ok(()));
+    assert_eq!(rt; sink.fail_at(2, 4), Ok(()));
+    assert_eq!(rt; sink.fail_at(3, 9), Ok(()));
+    assert_eq!(rt; sink.put(b"ok "), Ok(()));
+    assert_eq!(rt; sink.put(b"verified"), Err(PutFault::Failed));
+    assert_eq!(rt; sink.put(b"!"), Err(PutFault::Failed));
+    assert_eq!(rt; sink.put(b"?"), Ok(()));
+    assert_eq!(rt; sink.text(), b"ok veri!?".as_slice());
+    Ok(())
+}
+
+#[test]
+fn two_files_are_joined(rt: HostRuntime) -> Result<(), Fail> {
+    let mut folder = MemFolder::new(rt.alloc());
+    let mut sink = MemSink::new(rt.alloc());
+    assert_eq!(rt; folder.add("a", b"one "), Ok(()));
+    assert_eq!(rt; folder.add("b", b"two"), Ok(()));
+    assert_eq!(rt; folder.fail_at(4), Ok(()));
+    assert_eq!(rt; sink.fail_at(2, 2), Ok(()));
+    assert_eq!(rt; join(&mut folder, &mut sink, ("a", "b"), 4), Joined::Whole);
+    assert_eq!(rt;
+        join(&mut folder, &mut sink, ("a", "b"), 4),
+        Joined::SecondFailed
+    );
+    assert_eq!(rt;
+        join(&mut folder, &mut sink, ("a", "b"), 4),
+        Joined::PutFailed
+    );
+    assert_eq!(rt;
+        join(&mut folder, &mut sink, ("c", "b"), 4),
+        Joined::FirstFailed
+    );
+    assert_eq!(rt;
+        join(&mut folder, &mut sink, ("a", "b"), 3),
+        Joined::TooLong
+    );
+    assert_eq!(rt; sink.text(), b"one twoon".as_slice());
+    Ok(())
+}
+
+#[test]
+fn real_files_are_fetched_within_the_limit(rt: HostRuntime) -> Result<(), Fail> {
+    let name = "ccac_ports_fetched.txt";
+    fs::write(&rt, name, "ccac-trace 1\n")?;
+    let mut folder = RealFolder::new(&rt, rt.alloc());
+    let exact = folder.fetch(name, 13);
+    let short = folder.fetch(name, 12);
+    let absent = folder.fetch("ccac_ports_absent.txt", 12);
+    fs::remove_file(&rt, name)?;
+    assert_eq!(rt; exact?.as_slice(), b"ccac-trace 1\n".as_slice());
+    assert_eq!(rt; short, Err(FetchFault::TooLong));
+    assert_eq!(rt; absent, Err(FetchFault::Failed));
+    Ok(())
+}
+
+#[test]
+fn the_standard_output_takes_a_text(rt: HostRuntime) {
+    let mut sink = RealSink::new(&rt);
+    assert_eq!(rt; sink.put(b"put on the standard output\n"), Ok(()));
+}
