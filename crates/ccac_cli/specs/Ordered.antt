@@ -1,0 +1,7 @@
+-- What a command of the code orders.
+use Rattle.ccac_cli.specs.Commands.{Order, admit}
+use Rattle.ccac_cli.specs.declared.commands.Command.{Command}
+use Rattle.ccac_cli.specs.declared.commands.Command.TheVariants.{Admit}
+
+abbrev pub ordered : Command → Order
+ordered (Admit question trace) = admit question.now trace.now

@@ -1,0 +1,188 @@
+use crate::run;
+use ccac_ports::{MemFolder, MemSink};
+use std::alloc::Global;
+use std::test::Fail;
+
+/// A question whose lines after `steps 1` are these.
+macro_rules! question {
+    ($($line:literal)*) => {
+        concat!("ccac-question 1\nflows 1\nsteps 1\n", $($line, "\n",)* "end\n")
+    };
+}
+
+/// A trace of one flow without states whose lines after its shape are these.
+macro_rules! trace {
+    ($($line:literal)*) => {
+        concat!("ccac-trace 1\nshape 1 0 2 1\n", $($line, "\n",)* "end\n")
+    };
+}
+
+const SLOW: &str =
+    question!("rate 1/2" "jitter 0" "rtt 1" "buffer none" "budget 100000" "require true");
+
+const EXACT: &str =
+    question!("rate 1" "jitter 0" "rtt 1" "buffer none" "budget 100000" "require true");
+
+const LATE: &str =
+    question!("rate 1" "jitter 1" "rtt 1" "buffer none" "budget 100000" "require true");
+
+const BUFFERED: &str =
+    question!("rate 1" "jitter 0" "rtt 1" "buffer 2" "budget 100000" "require true");
+
+const ROOMIER: &str =
+    question!("rate 1" "jitter 0" "rtt 1" "buffer 2001/1000" "budget 100000" "require true");
+
+const NEVER: &str =
+    question!("rate 1/2" "jitter 0" "rtt 1" "buffer none" "budget 100000" "require false");
+
+const HALVES: &str =
+    trace!("over 2" "credit 0" "row 0 0" "flow 1 4 0 0" "row 1 0" "flow 1 4 1 0" "row 2 0" "flow 1 4 2 0" "row 3 0" "flow 1 4 3 0");
+
+const WHOLES: &str =
+    trace!("over 1" "credit 0" "row 0 0" "flow 1 4 0 0" "row 1 0" "flow 1 4 1 0" "row 2 0" "flow 1 4 2 0" "row 3 0" "flow 1 4 3 0");
+
+const WASTEFUL: &str =
+    trace!("over 1" "credit 0" "row 0 0" "flow 1 5 0 0" "row 1 0" "flow 1 5 0 0" "row 2 1" "flow 1 5 1 0" "row 3 1" "flow 1 5 2 0");
+
+const LOSING: &str =
+    trace!("over 1" "credit 0" "row 0 0" "flow 1 4 0 0" "row 1 0" "flow 1 5 1 1" "row 2 0" "flow 1 5 2 1" "row 3 0" "flow 1 5 3 1");
+
+const FILLED: &str =
+    trace!("over 1" "credit 0" "row 0 0" "flow 1 2 0 0" "row 1 0" "flow 1 3 1 1" "row 2 0" "flow 1 3 2 1" "row 3 0" "flow 1 4 3 1");
+
+const OVERFULL: &str =
+    trace!("over 1000000000000000000000000000000" "credit 0" "row 0 0" "flow 1 2000000000000000000000000000001 0 0" "row 1 0" "flow 1 0 0 0" "row 2 0" "flow 1 0 0 0" "row 3 0" "flow 1 0 0 0");
+
+const OTHER_FLOW: &str = trace!("over 1" "credit 0" "row 0 0" "flow 2 4 0 0");
+
+const TOO_LARGE: &str = trace!("over 1" "credit 170141183460469231731687303715884105728");
+
+const CUT: &str = "ccac-trace 1\nshape 1 0 2 1\nover 1\n";
+
+const TWO_FLOWS: &str =
+    "ccac-trace 1\nshape 2 0 2 1\nover 1\ncredit 0\nrow 0 0\nflow 1 170141183460469231731687303715884105727 0 0\nflow 2 170141183460469231731687303715884105727 0 0\nrow 1 0\nflow 1 170141183460469231731687303715884105727 1 0\nflow 2 170141183460469231731687303715884105727 0 0\nrow 2 0\nflow 1 170141183460469231731687303715884105727 2 0\nflow 2 170141183460469231731687303715884105727 0 0\nrow 3 0\nflow 1 170141183460469231731687303715884105727 3 0\nflow 2 170141183460469231731687303715884105727 0 0\nend\n";
+
+/// A question, a trace, and the status and report to which `admit` comes.
+const CASES: [(&str, &str, u8, &str); 16] = [
+    (SLOW, HALVES, 0, "admitted\n"),
+    (SLOW, WHOLES, 1, "broken P3 row 1 flow 0\n"),
+    (LATE, WASTEFUL, 1, "broken P5 row 2 flow 0\n"),
+    (EXACT, LOSING, 1, "broken P8 row 1 flow 0\n"),
+    (BUFFERED, FILLED, 0, "admitted\n"),
+    (ROOMIER, FILLED, 1, "broken P8 row 1 flow 0\n"),
+    (BUFFERED, OVERFULL, 1, "broken P7 row 0 flow 0\n"),
+    (EXACT, TWO_FLOWS, 2, "wide row 1\n"),
+    (NEVER, HALVES, 3, "refused question Q99 line 1\n"),
+    ("", HALVES, 3, "refused question Q99 line 1\n"),
+    ("\u{1}\u{ff}", HALVES, 3, "refused question Q99 line 1\n"),
+    (SLOW, "", 3, "refused trace V1 line 1\n"),
+    (SLOW, OTHER_FLOW, 3, "refused trace V4 line 6\n"),
+    (SLOW, TOO_LARGE, 3, "refused trace V5 line 4\n"),
+    (SLOW, CUT, 3, "refused trace V6 line 4\n"),
+    ("", "", 3, "refused question Q99 line 1\n"),
+];
+
+#[test]
+fn admit_reports_what_the_path_says(rt: HostRuntime) -> Result<(), Fail> {
+    let words = words_of(rt.alloc(), &["admit", "q", "t"])?;
+    for (question, trace, status, report) in CASES {
+        let mut folder = MemFolder::new(rt.alloc());
+        let mut sink = MemSink::new(rt.alloc());
+        assert_eq!(rt; folder.add("q", question.as_bytes()), Ok(()));
+        assert_eq!(rt; folder.add("t", trace.as_bytes()), Ok(()));
+        assert_eq!(rt; run(rt.alloc(), &words, &mut folder, &mut sink), status);
+        assert_eq!(rt; sink.text(), report.as_bytes());
+    }
+    Ok(())
+}
+
+/// A folder with the question `q` and the trace `t`, both plain and admitted.
+fn folder_of_halves(alloc: Global) -> Result<MemFolder, Fail> {
+    let mut folder = MemFolder::new(alloc);
+    folder.add("q", SLOW.as_bytes())?;
+    folder.add("t", HALVES.as_bytes())?;
+    Ok(folder)
+}
+
+fn words_of(alloc: Global, words: &[&str]) -> Result<Vec<String>, Fail> {
+    let mut all = Vec::new(alloc);
+    for word in words {
+        all.push(String::from_str(alloc, word)?)?;
+    }
+    Ok(all)
+}
+
+/// The status of the words over the folder, and what a sink that keeps all has got.
+fn ended(alloc: Global, words: &[&str], folder: &mut MemFolder) -> Result<(u8, Vec<u8>), Fail> {
+    let words = words_of(alloc, words)?;
+    let mut sink = MemSink::new(alloc);
+    let status = run(alloc, &words, folder, &mut sink);
+    Ok((status, sink.text().to_vec(alloc)?))
+}
+
+/// Asserts that the words over the folder come to this status and report.
+macro_rules! assert_ends {
+    ($rt:ident; $words:expr, $folder:ident, $status:literal, $report:literal) => {
+        let (status, report) = ended($rt.alloc(), &$words, &mut $folder)?;
+        assert_eq!($rt; status, $status);
+        assert_eq!($rt; report.as_slice(), $report.as_bytes());
+    };
+}
+
+#[test]
+fn each_file_that_cannot_be_fetched_is_named(rt: HostRuntime) -> Result<(), Fail> {
+    let words = ["admit", "q", "t"];
+    let mut first_fails = folder_of_halves(rt.alloc())?;
+    assert_eq!(rt; first_fails.fail_at(1), Ok(()));
+    assert_ends!(rt; words, first_fails, 5, "read fault question\n");
+    let mut second_fails = folder_of_halves(rt.alloc())?;
+    assert_eq!(rt; second_fails.fail_at(2), Ok(()));
+    assert_ends!(rt; words, second_fails, 5, "read fault trace\n");
+    let mut whole = folder_of_halves(rt.alloc())?;
+    assert_ends!(rt; ["admit", "missing", "t"], whole, 5, "read fault question\n");
+    assert_ends!(rt; ["admit", "q", "missing"], whole, 5, "read fault trace\n");
+    assert_ends!(rt; words, whole, 0, "admitted\n");
+    Ok(())
+}
+
+#[test]
+fn each_file_that_is_too_long_is_named(rt: HostRuntime) -> Result<(), Fail> {
+    let words = ["admit", "q", "t"];
+    let longest_question = vec![in rt.alloc(); b'a'; 65_536]?;
+    let long_question = vec![in rt.alloc(); b'a'; 65_537]?;
+    let longest_trace = vec![in rt.alloc(); b'a'; 262_144]?;
+    let long_trace = vec![in rt.alloc(); b'a'; 262_145]?;
+    let mut folder = folder_of_halves(rt.alloc())?;
+    assert_eq!(rt; folder.add("t", long_trace.as_slice()), Ok(()));
+    assert_ends!(rt; words, folder, 3, "refused trace too long\n");
+    assert_eq!(rt; folder.add("t", longest_trace.as_slice()), Ok(()));
+    assert_ends!(rt; words, folder, 3, "refused trace V6 line 1\n");
+    assert_eq!(rt; folder.add("q", long_question.as_slice()), Ok(()));
+    assert_ends!(rt; words, folder, 3, "refused question too long\n");
+    assert_eq!(rt; folder.add("q", longest_question.as_slice()), Ok(()));
+    assert_ends!(rt; words, folder, 3, "refused question Q99 line 1\n");
+    Ok(())
+}
+
+#[test]
+fn words_of_no_command_are_usage(rt: HostRuntime) -> Result<(), Fail> {
+    let mut folder = folder_of_halves(rt.alloc())?;
+    assert_ends!(rt; [], folder, 4, "usage\n");
+    assert_ends!(rt; ["admit", "q"], folder, 4, "usage\n");
+    assert_ends!(rt; ["admit", "q", "t", "u"], folder, 4, "usage\n");
+    assert_ends!(rt; ["admits", "q", "t"], folder, 4, "usage\n");
+    Ok(())
+}
+
+#[test]
+fn a_sink_that_fails_has_got_a_prefix(rt: HostRuntime) -> Result<(), Fail> {
+    let words = words_of(rt.alloc(), &["admit", "q", "t"])?;
+    for (keep, kept) in [(0, ""), (1, "a"), (4, "admi"), (9, "admitted\n")] {
+        let mut folder = folder_of_halves(rt.alloc())?;
+        let mut sink = MemSink::new(rt.alloc());
+        assert_eq!(rt; sink.fail_at(1, keep), Ok(()));
+        assert_eq!(rt; run(rt.alloc(), &words, &mut folder, &mut sink), 6);
+        assert_eq!(rt; sink.text(), kept.as_bytes());
+    }
+    Ok(())
+}
