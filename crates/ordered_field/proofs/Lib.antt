@@ -1,0 +1,10 @@
+pub mod Points
+pub mod RingLaws
+pub mod OrderLaws
+pub mod OrderFacts
+pub mod FieldLaws
+pub mod Fractions
+pub mod Comparing
+pub mod DeltaLaws
+pub mod DeltaOrder
+pub mod WholeNumbers
