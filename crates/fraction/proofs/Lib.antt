@@ -1,0 +1,9 @@
+pub mod Adding
+pub mod Dividing
+pub mod Multiplying
+pub mod Pairs
+pub mod ProductLaws
+pub mod Ratios
+pub mod Signs
+pub mod SumLaws
+pub mod SumSteps

@@ -1,0 +1,3 @@
+pub mod Cross
+pub mod Sums
+pub mod Value

@@ -1,0 +1,4 @@
+pub mod CoprimeLaws
+pub mod Reduction
+pub mod Scaling
+pub mod Uniqueness
