@@ -1,0 +1,9 @@
+//! What a solver of linear rows may rely on: laws of rows, as calls that do nothing.
+
+ghost use Rattle.field_rows.specs.Farkas.{ContradictionsHaveNoSolution};
+
+/// Bounds of which some multiples, by numbers that aren't below zero, sum to `0 <= s` with a number s below zero, or
+/// to `0 < 0`, have no common solution. This is Farkas' lemma in the direction that a certificate rests on.
+pub fn contradictions_have_no_solution()
+    ensures { ContradictionsHaveNoSolution }
+{}
