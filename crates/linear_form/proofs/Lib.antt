@@ -1,0 +1,10 @@
+pub mod CommonDivisor
+pub mod DividedTerms
+pub mod JoinedRuns
+pub mod LiteralBounds
+pub mod NormalLiterals
+pub mod QuotientSums
+pub mod ReducedLists
+pub mod Running
+pub mod Threshold
+pub mod Truth

@@ -1,0 +1,3 @@
+pub mod NormalForm
+pub mod Reduced
+pub mod Sums
