@@ -1,0 +1,10 @@
+pub mod ExampleFits
+pub mod OpeningLaws
+pub mod Questions
+pub mod Readiness
+pub mod Scales
+pub mod SendLaws
+pub mod StepLaws
+pub mod Sums
+pub mod TestLaws
+pub mod Values

@@ -1,0 +1,9 @@
+pub mod Readings
+pub mod Expressions
+pub mod Guards
+pub mod Opening
+pub mod Sends
+pub mod Steps
+pub mod Limits
+pub mod Meaning
+pub mod Example

@@ -1,0 +1,46 @@
+-- The opening row: each state within the range of its `init`.
+use Rattle.std.specs.Prelude.{ℕ, ℤ, pos, neg_ℤ, [], ◌∷◌, length, Option, Some, None, Result, Ok, Err, Bool, false}
+use Rattle.std.proofs.Common.{get_or}
+use Rattle.whole.specs.declared.answers.Stuck.{Stuck}
+use Rattle.weighing.specs.Asked.{asked}
+use Rattle.weighing.specs.Claim.{Claim, compare, both_of, outcome}
+use Rattle.weighing.specs.Weighed.{times}
+use Rattle.weighing.specs.declared.weighings.Rel5.TheVariants.{AtLeast, AtMost}
+use Rattle.run_rows.specs.Runs.{state_of}
+use Rattle.run_rows.specs.declared.rows.Run.{Run}
+use Rattle.path_server.specs.Shapes.{shape_of}
+use Rattle.path_server.specs.declared.settings.Setting.{Setting}
+use Rattle.ctrl_types.specs.declared.controllers.Controller.{Controller}
+use Rattle.ctrl_types.specs.declared.controllers.State.{State}
+use Rattle.ctrl_types.specs.declared.controllers.Kind.TheVariants.{Count}
+use Rattle.ctrl_meaning.specs.declared.opening.OpeningHolds.{OpeningHolds}
+use Rattle.ctrl_meaning.specs.declared.opening.OpeningHolds.TheVariants.{Yes, State as Differs, Wide}
+
+abbrev pub no_state : State
+no_state = record { name = []; kind = Count; lo = record { num = pos 0; den = pos 1 }; hi = record { num = pos 0; den = pos 1 } }
+
+abbrev pub declared_state : Controller → ℕ → State
+declared_state c j = get_or c.states j no_state
+
+-- lo <= x <= hi, each comparison at the scale of its own denominator
+abbrev pub range_claim : State → ℤ → ℤ → Claim
+range_claim s x over =
+    both_of (compare (times s.lo.den x ∷ times (neg_ℤ s.lo.num) over ∷ []) AtLeast)
+    (compare (times s.hi.den x ∷ times (neg_ℤ s.hi.num) over ∷ []) AtMost)
+
+-- the row on which the states stand first
+abbrev pub opening_row : Controller → Setting → ℕ
+opening_row c s = (shape_of s (length c.states) c.delay_max).h
+
+abbrev pub state_in_range : Controller → Run → ℕ → ℕ → ℕ → Result Bool Stuck
+state_in_range c r row flow j = outcome row (range_claim (declared_state c j) (state_of r row flow j) r.over)
+
+abbrev pub opening_answer : Result (Option ℕ) Stuck → OpeningHolds
+opening_answer (Err stuck) = Wide stuck
+opening_answer (Ok (Some j)) = Differs j
+opening_answer (Ok None) = Yes
+
+-- all states are weighed before any is out of its range
+unfoldable pub opening : Controller → Setting → Run → ℕ → OpeningHolds
+opening c s r flow =
+    opening_answer (asked false (state_in_range c r (opening_row c s) flow) (length c.states))

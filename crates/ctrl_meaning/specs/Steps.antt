@@ -1,0 +1,84 @@
+-- The answer about a controlled row: the rule that fires, the states that it gives, and what is sent.
+use Rattle.std.specs.Prelude.{ℕ, ◌-◌, pos, negsuc, Bool, true, false, [], ◌∷◌, length, Option, Some, None, Result, Ok, Err}
+use Rattle.std.proofs.Common.{get_or}
+use Rattle.whole.specs.declared.answers.Stuck.{Stuck}
+use Rattle.weighing.specs.Asked.{asked}
+use Rattle.weighing.specs.Claim.{Claim, compare, outcome}
+use Rattle.weighing.specs.Weighed.{times}
+use Rattle.weighing.specs.declared.scales.Side.TheVariants.{Right}
+use Rattle.weighing.specs.declared.weighings.Rel5.TheVariants.{Equal}
+use Rattle.run_rows.specs.Runs.{state_of}
+use Rattle.run_rows.specs.declared.rows.Run.{Run}
+use Rattle.path_server.specs.declared.settings.Setting.{Setting}
+use Rattle.ctrl_types.specs.Limits.{rule_of}
+use Rattle.ctrl_types.specs.Tests.{test_of}
+use Rattle.ctrl_types.specs.declared.controllers.Controller.{Controller}
+use Rattle.ctrl_types.specs.declared.expressions.Lin.{Lin}
+use Rattle.ctrl_meaning.specs.Expressions.{lin_terms, scale_with}
+use Rattle.ctrl_meaning.specs.Guards.{test_claim}
+use Rattle.ctrl_meaning.specs.Readings.{reading}
+use Rattle.ctrl_meaning.specs.Sends.{send_claim}
+use Rattle.ctrl_meaning.specs.declared.readings.Reading.{Reading}
+use Rattle.ctrl_meaning.specs.declared.step.StepHolds.{StepHolds}
+use Rattle.ctrl_meaning.specs.declared.step.StepHolds.TheVariants.{Yes, State, Arrival, StepWide, SendWide}
+
+-- guards and assignments read the states of the row before
+abbrev pub stepping : Setting → ℕ → ℕ → Reading
+stepping s row flow = reading row flow (row - 1) (row - s.rtt)
+
+-- the window and the rate read the states of the row itself
+abbrev pub sending : Setting → ℕ → ℕ → Reading
+sending s row flow = reading row flow row (row - s.rtt)
+
+-- what a rule claims of a state: it has the value of its expression, or it keeps its value
+abbrev pub set_claim : Run → Reading → ℕ → Option Lin → Claim
+set_claim r at j None =
+    compare (times (pos 1) (state_of r at.row at.flow j) ∷ times (negsuc 0) (state_of r at.states at.flow j) ∷ []) Equal
+set_claim r at j (Some lin) =
+    let scale = scale_with 1 lin.terms in
+    compare (times (pos scale) (state_of r at.row at.flow j) ∷ lin_terms r at Right scale lin.terms) Equal
+
+-- what rule k sets state j to
+abbrev pub set_of : Controller → ℕ → ℕ → Option Lin
+set_of c k j = get_or (rule_of c k).sets j None
+
+abbrev pub guard_outcome : Controller → Run → Reading → ℕ → Result Bool Stuck
+guard_outcome c r at k = outcome at.row (test_claim r at (test_of (rule_of c k).guard))
+
+abbrev pub set_outcome : Controller → Run → Reading → ℕ → ℕ → Result Bool Stuck
+set_outcome c r at k j = outcome at.row (set_claim r at j (set_of c k j))
+
+-- the last rule fires where no other does
+abbrev pub firing : ℕ → Result (Option ℕ) Stuck → Result ℕ Stuck
+firing last (Err stuck) = Err stuck
+firing last (Ok None) = Ok last
+firing last (Ok (Some k)) = Ok k
+
+-- the rule that fires; all guards are weighed first
+unfoldable pub fired : Controller → Run → Reading → Result ℕ Stuck
+fired c r at = firing (length c.rules - 1) (asked true (guard_outcome c r at) (length c.rules))
+
+-- the first state that differs from what rule k gives it; all states are weighed first
+unfoldable pub differing : Controller → Run → Reading → ℕ → Result (Option ℕ) Stuck
+differing c r at k = asked false (set_outcome c r at k) (length c.states)
+
+unfoldable pub sent : Controller → Run → Reading → Result Bool Stuck
+sent c r at = outcome at.row (send_claim r at c.window c.rate)
+
+abbrev pub after_states : ℕ → Result Bool Stuck → StepHolds
+after_states k (Err stuck) = SendWide stuck
+after_states k (Ok false) = Arrival
+after_states k (Ok true) = Yes k
+
+abbrev pub after_rule : ℕ → Result (Option ℕ) Stuck → Result Bool Stuck → StepHolds
+after_rule k (Err stuck) send = StepWide stuck
+after_rule k (Ok (Some j)) send = State j
+after_rule k (Ok None) send = after_states k send
+
+abbrev pub after_guards : Result ℕ Stuck → (ℕ → Result (Option ℕ) Stuck) → Result Bool Stuck → StepHolds
+after_guards (Err stuck) states send = StepWide stuck
+after_guards (Ok k) states send = after_rule k (states k) send
+
+unfoldable pub step : Controller → Setting → Run → ℕ → ℕ → StepHolds
+step c s r row flow =
+    after_guards (fired c r (stepping s row flow)) (differing c r (stepping s row flow)) (sent c r (sending s row flow))
