@@ -1,0 +1,77 @@
+-- Scales grow from denominator to denominator, and divide each common multiple of them.
+use Rattle.std.proofs.Common.{◌≡◌, ℕ, ◌+◌, ◌<◌, ◌≤◌, List, [], ◌∷◌, get_or, length, drop, sym, ◌∙◌, ap, arith}
+use Rattle.std.specs.Prelude.{All}
+use Rattle.std.specs.Int.{◌∣◌}
+use Rattle.std.proofs.lemmas.Nat.Gcd.{dvd_trans, dvd_refl}
+use Rattle.std.proofs.Math.Nat.{one-dvd}
+use Rattle.std.proofs.lemmas.List.{drop_more}
+use Rattle.std.proofs.lemmas.List.Elements.{All-nil, All-cons, All-head, All-tail, All-get_or, All-drop}
+use Rattle.weighing.specs.Scaled.{IsNum, common, den_of}
+use Rattle.run_rows.specs.declared.rows.Run.{Run}
+use Rattle.ctrl_meaning.proofs.Scales.{is_common}
+use Rattle.question_text.specs.declared.names.Rows.{Rows}
+use Rattle.question_text.specs.declared.conditions.QTerm.{QTerm}
+use Rattle.question_text.specs.declared.conditions.QLin.{QLin}
+use Rattle.question_text.specs.Expressions.{AreCleared, CanTake, Divides, HasNum, IsLeastScale, scale_of_two, scale_with}
+
+pub numbers_of : (r : Run) (at : Rows) (ts : List QTerm) → All (CanTake r at) ts → All HasNum ts
+numbers_of r at ts each = λ k d inside. (each k d inside).coef_in
+
+pub scale_grows : (s : ℕ) (ts : List QTerm) → 1 ≤ s → All HasNum ts → s ≤ scale_with s ts
+scale_grows s [] from each = omega arith
+scale_grows s (t ∷ ts) from each =
+    let here = is_common s t.coef from (All-head HasNum t ts each) in
+    let rest = scale_grows (common s t.coef) ts here.some (All-tail HasNum t ts each) in
+    omega (arith, here.grown, rest)
+
+-- one more denominator in the scale
+pub record ScaleStep (s start : ℕ) (ts : List QTerm) (i : ℕ) (t : QTerm) : Type 0 where
+  pub number_in : IsNum t.coef
+  pub least_to : common s t.coef ≤ 1000000
+  pub next : scale_with (common s t.coef) (drop (i + 1) ts) ≡ scale_with start ts
+  pub some : 1 ≤ common s t.coef
+
+pub scale_step : (s start : ℕ) (ts : List QTerm) (i : ℕ) (d : QTerm) → i < length ts → All HasNum ts → 1 ≤ s
+    → scale_with s (drop i ts) ≡ scale_with start ts → scale_with start ts ≤ 1000000 → ScaleStep s start ts i (get_or ts i d)
+scale_step s start ts i d inside each from so_far small =
+    let t : QTerm = get_or ts i d in
+    let number : IsNum t.coef = All-get_or HasNum ts i d inside each in
+    let here = is_common s t.coef from number in
+    let next : scale_with (common s t.coef) (drop (i + 1) ts) ≡ scale_with start ts =
+    ap (scale_with s) (sym (drop_more ts i d inside)) ∙ so_far in
+    let rest = scale_grows (common s t.coef) (drop (i + 1) ts) here.some (All-drop HasNum (i + 1) ts each) in
+    record { number_in = number; least_to = omega (arith, rest, next, small); next = next; some = here.some }
+
+-- a scale is the least multiple of what it began with and of each denominator
+record IsScale (s : ℕ) (ts : List QTerm) : Type 0 where
+  some : 1 ≤ scale_with s ts
+  of_start : s ∣ scale_with s ts
+  of_terms : AreCleared (scale_with s ts) ts
+  least : (m : ℕ) → s ∣ m → AreCleared m ts → scale_with s ts ∣ m
+
+is_scale : (s : ℕ) (ts : List QTerm) → 1 ≤ s → All HasNum ts → IsScale s ts
+is_scale s [] from each =
+    record { some = from; of_start = dvd_refl s; of_terms = All-nil (Divides s); least = λ m start cleared. start }
+is_scale s (t ∷ ts) from each =
+    let here = is_common s t.coef from (All-head HasNum t ts each) in
+    let rest = is_scale (common s t.coef) ts here.some (All-tail HasNum t ts each) in
+    record {
+      some = rest.some;
+      of_start = dvd_trans s here.of_scale rest.of_start;
+      of_terms = All-cons (Divides (scale_with (common s t.coef) ts)) t ts (dvd_trans (den_of t.coef) here.of_den rest.of_start) rest.of_terms;
+      least = λ m start cleared.
+          rest.least m (here.least m start (All-head (Divides m) t ts cleared)) (All-tail (Divides m) t ts cleared);
+    }
+
+cleared_more : (m n : ℕ) (ts : List QTerm) → m ∣ n → AreCleared m ts → AreCleared n ts
+cleared_more m n ts more each = λ k d inside. dvd_trans (den_of (get_or ts k d).coef) (each k d inside) more
+
+pub least_scale : (left right : QLin) → All HasNum left.terms → All HasNum right.terms → IsLeastScale left right (scale_of_two left right)
+least_scale left right lefts rights =
+    let one = is_scale 1 left.terms (omega arith) lefts in
+    let two = is_scale (scale_with 1 left.terms) right.terms one.some rights in
+    record {
+      of_left = cleared_more (scale_with 1 left.terms) (scale_of_two left right) left.terms two.of_start one.of_terms;
+      of_right = two.of_terms;
+      least = λ n cleared cleared'. two.least n (one.least n (one-dvd n) cleared) cleared';
+    }

@@ -1,0 +1,12 @@
+use Rattle.std.proofs.Common.{◌≡◌, drop, map}
+use Rattle.weighing.specs.Claim.{both_outcomes, outcome}
+use Rattle.question_text.specs.Conditions.{condition_of, conjunction}
+use Rattle.question_text.specs.Expressions.{CanWeigh, condition_claim}
+use Rattle.question_text.proofs.violation.all_assumed.Given as goal
+
+-- the assumptions passed so far, and those to come, are all of them
+abbrev pub invariant-loop-assumption : goal.invariant-loop-assumption
+invariant-loop-assumption l =
+    (both_outcomes l.all (outcome l.at.last (condition_claim l.run l.at (conjunction (map condition_of (drop l.assumption-index l.assumption-items)))))
+    ≡ outcome l.at.last (condition_claim l.run l.at (conjunction (map condition_of l.assumption-items))))
+    × CanWeigh l.run l.at (conjunction (map condition_of (drop l.assumption-index l.assumption-items)))

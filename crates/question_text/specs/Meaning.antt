@@ -1,0 +1,68 @@
+-- What a question means, over all whole numbers.
+-- The values of a comparison stand in units of 1 / (over * scale), in which each is whole; the scale is the least common
+-- multiple of the comparison's denominators.
+use Rattle.std.specs.Prelude.{ℕ, ℤ, pos, ◌+ℤ◌, ◌*ℤ◌, ◌⊎◌, List, [], ◌∷◌, ◌++◌, All, Result, Ok, Err}
+use Rattle.whole.specs.declared.answers.Stuck.{Stuck}
+use Rattle.weighing.specs.First.{IsFirst}
+use Rattle.weighing.specs.Weighed.{weighed}
+use Rattle.weighing.specs.declared.weighings.Term.{Term}
+use Rattle.run_rows.specs.declared.rows.Run.{Run}
+use Rattle.ctrl_meaning.specs.Meaning.{Compares, number}
+use Rattle.question_text.specs.Conditions.{Condition, always, never, comparison, opposite, end_of_all, all_of, end_of_any, any_of, condition_of}
+use Rattle.question_text.specs.Expressions.{comparison_terms, scale_of_two}
+use Rattle.question_text.specs.Names.{amount}
+use Rattle.question_text.specs.Violation.{assumptions, rows_of}
+use Rattle.question_text.specs.declared.names.Rows.{Rows}
+use Rattle.question_text.specs.declared.conditions.QCond.{QCond}
+use Rattle.question_text.specs.declared.conditions.QTerm.{QTerm}
+use Rattle.question_text.specs.declared.questions.Question.{Question}
+
+-- the value of an expression: the sum of its coefficients times what its names stand for
+abbrev pub value : Run → Rows → ℕ → List QTerm → ℤ
+value r at scale [] = pos 0
+value r at scale (t ∷ terms) = (number scale t.coef *ℤ amount r at t.of) +ℤ value r at scale terms
+
+-- a condition is true as its comparisons and connectives say
+abbrev pub IsTrueIn : Run → Rows → Condition → Type 0
+IsTrueIn r at always = Unit {0}
+IsTrueIn r at never = ⊥
+IsTrueIn r at (comparison left rel right) =
+    Compares rel (value r at (scale_of_two left right) left.terms) (value r at (scale_of_two left right) right.terms)
+IsTrueIn r at (opposite c) = IsTrueIn r at c → ⊥
+IsTrueIn r at end_of_all = Unit {0}
+IsTrueIn r at (all_of c rest) = IsTrueIn r at c × IsTrueIn r at rest
+IsTrueIn r at end_of_any = ⊥
+IsTrueIn r at (any_of c rest) = IsTrueIn r at c ⊎ IsTrueIn r at rest
+
+abbrev pub HoldsIn : Question → Run → QCond → Type 0
+HoldsIn q r c = IsTrueIn r (rows_of q r) (condition_of c)
+
+-- every assumption is true of the run, and the requirement is false
+pub record Violates (q : Question) (r : Run) : Type 0 where
+  pub assumed : All (HoldsIn q r) q.assumes
+  pub broken : HoldsIn q r q.require → ⊥
+
+-- the comparisons of a condition, in their written order, each as the terms that are weighed
+abbrev pub comparisons_of : Run → Rows → Condition → List (List Term)
+comparisons_of r at always = []
+comparisons_of r at never = []
+comparisons_of r at (comparison left rel right) = comparison_terms r at left right ∷ []
+comparisons_of r at (opposite c) = comparisons_of r at c
+comparisons_of r at end_of_all = []
+comparisons_of r at (all_of c rest) = comparisons_of r at c ++ comparisons_of r at rest
+comparisons_of r at end_of_any = []
+comparisons_of r at (any_of c rest) = comparisons_of r at c ++ comparisons_of r at rest
+
+-- what stops a comparison's weighing, if anything does
+abbrev pub stop_of : {X : Type 0} → Result X Stuck → Result (Unit {0}) Stuck
+stop_of (Err stuck) = Err stuck
+stop_of (Ok _) = Ok tt
+
+abbrev pub weighs : ℕ → List Term → Result (Unit {0}) Stuck
+weighs row terms = stop_of (weighed row terms).sum
+
+-- the first weighing that passes, of the comparisons of the assumptions and then of the requirement
+abbrev pub IsFirstPassing : Question → Run → Stuck → Type 0
+IsFirstPassing q r stuck =
+    IsFirst (weighs (rows_of q r).last)
+    (comparisons_of r (rows_of q r) (assumptions q) ++ comparisons_of r (rows_of q r) (condition_of q.require)) stuck

@@ -1,0 +1,24 @@
+-- The answer about a run: every assumption and the requirement are weighed, in order, before any truth is taken.
+use Rattle.std.specs.Prelude.{◌-◌, Bool, length, map, Result}
+use Rattle.whole.specs.declared.answers.Stuck.{Stuck}
+use Rattle.weighing.specs.Claim.{Claim, both_of, not_of, outcome}
+use Rattle.run_rows.specs.declared.rows.Run.{Run}
+use Rattle.question_text.specs.Conditions.{Condition, condition_of, conjunction}
+use Rattle.question_text.specs.Expressions.{condition_claim}
+use Rattle.question_text.specs.declared.names.Rows.{Rows}
+use Rattle.question_text.specs.declared.questions.Question.{Question}
+
+-- the last row of the run, and the row that lies the question's steps before it
+abbrev pub rows_of : Question → Run → Rows
+rows_of q r = record { opening = length r.rows - 1 - q.setting.steps; last = length r.rows - 1 }
+
+-- all assumptions, in order
+abbrev pub assumptions : Question → Condition
+assumptions q = conjunction (map condition_of q.assumes)
+
+abbrev pub violation_claim : Question → Run → Claim
+violation_claim q r =
+    both_of (condition_claim r (rows_of q r) (assumptions q)) (not_of (condition_claim r (rows_of q r) (condition_of q.require)))
+
+unfoldable pub violation : Question → Run → Result Bool Stuck
+violation q r = outcome (rows_of q r).last (violation_claim q r)

@@ -1,0 +1,153 @@
+//! What the names of a question stand for in a run.
+ghost use Rattle.std.specs.Prelude.{◌≡◌, ◌<◌, ◌≤◌, [], ◌∷◌, length, unsigned_abs};
+ghost use Rattle.run_rows.specs.Runs.{IsEntry, IsRun, flow_of, state_of, waste};
+ghost use Rattle.weighing.specs.Weighed.{times, weighed_from};
+ghost use Rattle.path_server.specs.Claims.{each_flow, flows_of};
+ghost use Rattle.question_text.specs.Names.{IsOf, counted, flow_terms, of_terms, row_at};
+
+use crate::conditions::Of;
+use run_rows::Run;
+use weighing::Weighing;
+
+/// The rows between which the steps of a question lie.
+#[derive(Clone, Copy, Debug)]
+pub struct Rows {
+    /// The row of step 0.
+    pub opening: u32,
+    /// The row of the last step, by which a weighing that is stuck is named.
+    pub last: u32,
+}
+
+/// What each flow has on each row.
+#[derive(Clone, Copy, Debug)]
+pub enum Count {
+    Arrived,
+    Served,
+    Lost,
+}
+
+/// The weighing with a multiple of what a term is taken of.
+#[tactic(auto, using(whole::proofs::Passing::signed))]
+pub fn plus_of(weighing: Weighing, run: &Run, at: &Rows, factor: i128, of: Of) -> Weighing
+    requires run_in { IsRun run.now }
+    requires of_in { IsOf run.now at.now of }
+    requires factor_to { unsigned_abs factor ≤ 1000000000000 }
+    ensures { result ≡ weighed_from weighing (of_terms run.now at.now factor of) }
+{
+    match of {
+        Of::One => weighing.plus(factor, run.over),
+        Of::Credit => weighing.plus(factor, run.credit),
+        Of::W(step) => weighing.plus(factor, waste(run, row_of_step(run, at, step))),
+        Of::A(flow, step) => {
+            let row = row_of_step(run, at, step);
+            plus_count(weighing, run, row, flow, Count::Arrived, factor)
+        }
+        Of::S(flow, step) => {
+            let row = row_of_step(run, at, step);
+            plus_count(weighing, run, row, flow, Count::Served, factor)
+        }
+        Of::L(flow, step) => {
+            let row = row_of_step(run, at, step);
+            plus_count(weighing, run, row, flow, Count::Lost, factor)
+        }
+        Of::X(state, flow, step) => {
+            let row = row_of_step(run, at, step);
+            weighing.plus(factor, state_value(run, row, flow, state))
+        }
+    }
+}
+
+/// The row of a step.
+fn row_of_step(run: &Run, at: &Rows, step: u32) -> u32
+    requires run_in { IsRun run.now }
+    requires row_in { row_at at.now step < length run.now.rows }
+    ensures { result ≡ row_at at.now step }
+{
+    at.opening + step
+}
+
+/// The weighing with a multiple of what a flow has on a row or, for flow 0, of what each has.
+#[tactic(auto, using(whole::proofs::Passing::signed))]
+fn plus_count(
+    start: Weighing,
+    run: &Run,
+    row: u32,
+    flow: u32,
+    count: Count,
+    factor: i128,
+) -> Weighing
+    requires run_in { IsRun run.now }
+    requires row_in { row < length run.now.rows }
+    requires flow_to { flow ≤ flows_of run.now }
+    requires factor_to { unsigned_abs factor ≤ 1000000000000 }
+    ensures { result ≡ weighed_from start (flow_terms factor (counted run.now count row) (flows_of run.now) flow) }
+{
+    if flow == 0 {
+        return plus_each(start, run, row, count, factor);
+    }
+    start.plus(factor, entry(run, row, flow, count))
+}
+
+/// The weighing with a multiple of what each flow has on a row.
+#[tactic(auto, using(whole::proofs::Passing::signed))]
+fn plus_each(start: Weighing, run: &Run, row: u32, count: Count, factor: i128) -> Weighing
+    requires run_in { IsRun run.now }
+    requires row_in { row < length run.now.rows }
+    requires factor_to { unsigned_abs factor ≤ 1000000000000 }
+    ensures { result ≡ weighed_from start (each_flow (λ f. times factor (counted run.now count row f) ∷ []) (flows_of run.now)) }
+{
+    let mut weighing = start;
+    for index in 0..flow_count(run) {
+        let number = entry(run, row, index + 1, count);
+        weighing = weighing.plus(factor, number);
+    }
+    weighing
+}
+
+/// How many flows the run has, the same on each row.
+fn flow_count(run: &Run) -> u32
+    requires { IsRun run.now }
+    ensures { result ≡ flows_of run.now }
+{
+    run.rows.as_slice()[0].flows.len() as u32
+}
+
+/// What a flow has on a row.
+fn entry(run: &Run, row: u32, flow: u32, count: Count) -> i128
+    requires run_in { IsRun run.now }
+    requires row_in { row < length run.now.rows }
+    requires flow_from { 1 ≤ flow }
+    requires flow_to { flow ≤ flows_of run.now }
+    ensures value { result ≡ counted run.now count row flow }
+    ensures within { IsEntry result }
+{
+    let entries = run.flow(row, flow);
+    match count {
+        Count::Arrived => entries.a,
+        Count::Served => entries.s,
+        Count::Lost => entries.l,
+    }
+}
+
+/// What the path wasted by this row.
+fn waste(run: &Run, row: u32) -> i128
+    requires run_in { IsRun run.now }
+    requires row_in { row < length run.now.rows }
+    ensures value { result ≡ waste run.now row }
+    ensures within { IsEntry result }
+{
+    run.rows.as_slice()[row as usize].w
+}
+
+/// The value of a state of one flow on one row.
+fn state_value(run: &Run, row: u32, flow: u32, state: u32) -> i128
+    requires run_in { IsRun run.now }
+    requires row_in { row < length run.now.rows }
+    requires flow_from { 1 ≤ flow }
+    requires flow_to { flow ≤ flows_of run.now }
+    requires state_in { state < length (flow_of run.now row flow).x }
+    ensures value { result ≡ state_of run.now row flow state }
+    ensures within { IsEntry result }
+{
+    run.flow(row, flow).x.as_slice()[state as usize]
+}
