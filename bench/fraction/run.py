@@ -25,6 +25,8 @@ def seconds(program, kind, operation, count):
 
 
 def main():
+    if not CHECKED.exists():
+        raise SystemExit("build the program first: rt run -- whole add 0, in crates/bench_fraction")
     PLAIN.parent.mkdir(exist_ok=True)
     subprocess.run(
         ["rustc", "-O", "-C", "target-cpu=x86-64-v2", "-o", PLAIN, HERE / "plain.rs"], check=True
