@@ -1,9 +1,9 @@
 -- What is known of a fetch that came after another one.
-use Rattle.std.proofs.Common.{subst, ℕ, ◌<◌, ◌≤◌, inl, inr, List, length, Err, arith}
+use Rattle.std.proofs.Common.{subst, ℕ, ◌<◌, ◌≤◌, inl, inr, List, [], ◌∷◌, length, Err, arith}
 use Rattle.std.specs.Prelude.{IfSome}
 use Rattle.ccac_ports.specs.Ports.{HasRisen, Tells}
-use Rattle.ccac_cli.specs.Commands.{Order}
-use Rattle.ccac_cli.specs.Ended.{OrderAnswers}
+use Rattle.ccac_cli.specs.Commands.{Order, file}
+use Rattle.ccac_cli.specs.Ended.{AreFetched, OrderAnswers}
 use Rattle.ccac_cli.specs.Fetched.{FetchEnds, IsFetched, IsLater, Told, faulty, longer}
 use Rattle.ccac_cli.specs.Halted.{HaltsAt}
 use Rattle.ccac_cli.specs.Reports.{Answer, limit_of}
@@ -42,3 +42,23 @@ pub settled_by : (old new : Told) (order : Order) (source : Source) (name : List
     → HaltsAt old new source name halt → Settled old new order (Err halt)
 settled_by old new order source name (Report report) answers ends = answers _ ends
 settled_by old new order source name NoMemory answers ends = tt
+
+-- files that were fetched one after the other
+pub none_fetched : (folder : Told) → AreFetched folder [] []
+unfolding AreFetched
+none_fetched folder = tt
+
+pub one_fetched : (folder : Told) (s : Source) (n bytes : List ℕ) → IsFetched folder s n bytes → AreFetched folder (file s n ∷ []) (bytes ∷ [])
+unfolding AreFetched
+one_fetched folder s n bytes first = (first, tt)
+
+pub two_fetched : (folder : Told) (s s' : Source) (n n' bytes bytes' : List ℕ) → IsFetched folder s n bytes → IsFetched folder s' n' bytes'
+    → AreFetched folder (file s n ∷ file s' n' ∷ []) (bytes ∷ bytes' ∷ [])
+unfolding AreFetched
+two_fetched folder s s' n n' bytes bytes' first second = (first, (second, tt))
+
+pub three_fetched : (folder : Told) (s s' s'' : Source) (n n' n'' bytes bytes' bytes'' : List ℕ) → IsFetched folder s n bytes
+    → IsFetched folder s' n' bytes' → IsFetched folder s'' n'' bytes''
+    → AreFetched folder (file s n ∷ file s' n' ∷ file s'' n'' ∷ []) (bytes ∷ bytes' ∷ bytes'' ∷ [])
+unfolding AreFetched
+three_fetched folder s s' s'' n n' n'' bytes bytes' bytes'' first second third = (first, (second, (third, tt)))

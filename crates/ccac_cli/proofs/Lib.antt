@@ -1,6 +1,6 @@
 pub mod EndLaws
 pub mod FetchLaws
+pub mod Says
+pub mod AdmitStatus
+pub mod ReplayStatus
 pub mod StatusLaws
-pub mod ThinFields
-pub mod ThinItems
-pub mod ThinLaws

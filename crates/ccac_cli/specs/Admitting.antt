@@ -1,5 +1,5 @@
 -- What is answered to a question and a trace: the question's refusal, then the trace's, then the path's verdict on the run.
-use Rattle.std.specs.Prelude.{◌≡◌, ℕ, List}
+use Rattle.std.specs.Prelude.{ℕ, List}
 use Rattle.whole.specs.declared.answers.Refusal.{Refusal}
 use Rattle.run_rows.specs.declared.shapes.Shape.{Shape}
 use Rattle.run_rows.specs.declared.rows.Run.{Run}
@@ -9,16 +9,7 @@ use Rattle.trace_replay.specs.Refused.{IsRefused}
 use Rattle.trace_replay.specs.Spelling.{IsTraceText}
 use Rattle.ccac_cli.specs.Reports.{Answer, refused, verdict}
 use Rattle.ccac_cli.specs.declared.reports.Source.TheVariants.{Question, Trace}
-use Rattle.ccac_cli.specs.Thin.{IsPlain, setting_text}
-
--- the bytes are the text of this question
-pub record IsQuestionText (bytes : List ℕ) (s : Setting) : Type 0 where
-  pub plain : IsPlain s
-  pub text_is : bytes ≡ setting_text s
-
--- not of the form that is built yet
-abbrev pub not_built : Refusal
-not_built = record { letter = 81; number = 99; line = 1 }
+use Rattle.thin_texts.specs.Questions.{IsSettingText, not_plain}
 
 -- the one answer to a trace, on the path of a setting
 pub data TraceAnswers (s : Setting) (trace : List ℕ) : Answer → Type 0 where
@@ -27,5 +18,5 @@ pub data TraceAnswers (s : Setting) (trace : List ℕ) : Answer → Type 0 where
 
 -- the one answer to these bytes: the question is read first
 pub data AdmitAnswers (question trace : List ℕ) : Answer → Type 0 where
-  question_refused : ((s : Setting) → IsQuestionText question s → ⊥) → AdmitAnswers question trace (refused Question not_built)
-  question_read : (s : Setting) (a : Answer) → IsQuestionText question s → TraceAnswers s trace a → AdmitAnswers question trace a
+  question_refused : ((s : Setting) → IsSettingText question s → ⊥) → AdmitAnswers question trace (refused Question not_plain)
+  question_read : (s : Setting) (a : Answer) → IsSettingText question s → TraceAnswers s trace a → AdmitAnswers question trace a

@@ -1,19 +1,45 @@
 -- What a call of the program may answer to its words, and how it may end.
-use Rattle.std.specs.Prelude.{◌≡◌, ℕ, List, [], take, Option, None, Some}
+use Rattle.std.specs.Prelude.{◌≡◌, ℕ, List, [], ◌∷◌, ◌++◌, take, Option, None, Some}
 use Rattle.ccac_ports.specs.Ports.{Appends, HasRisen}
 use Rattle.ccac_cli.specs.Admitting.{AdmitAnswers}
-use Rattle.ccac_cli.specs.Commands.{Order, admit}
+use Rattle.ccac_cli.specs.Commands.{File, Order, admit, files_of, replay}
 use Rattle.ccac_cli.specs.Fetched.{FetchEnds, IsFetched, Told}
+use Rattle.ccac_cli.specs.Replays.{ReplayAnswers}
 use Rattle.ccac_cli.specs.Reports.{Answer, usage}
-use Rattle.ccac_cli.specs.declared.reports.Source.TheVariants.{Question, Trace}
 
--- the answers to an order, each with its cause: the files are fetched first, the question's before the trace's
-pub data OrderAnswers (old new : Told) : Order → Answer → Type 0 where
-  question_ends : (q t : List ℕ) (a : Answer) → FetchEnds old new Question q a → OrderAnswers old new (admit q t) a
-  trace_ends : (q t : List ℕ) (a : Answer) (question : List ℕ) → IsFetched old Question q question
-      → FetchEnds old new Trace t a → OrderAnswers old new (admit q t) a
-  answered : (q t : List ℕ) (a : Answer) (question trace : List ℕ) → IsFetched old Question q question → IsFetched old Trace t trace
-      → AdmitAnswers question trace a → OrderAnswers old new (admit q t) a
+-- the bytes of each file, as the folder tells them
+unfoldable pub AreFetched : Told → List File → List (List ℕ) → Type 0
+AreFetched folder [] [] = Unit {0}
+AreFetched folder [] (bytes ∷ more) = ⊥
+AreFetched folder (file ∷ files) [] = ⊥
+AreFetched folder (file ∷ files) (bytes ∷ more) = IsFetched folder file.source file.name bytes × AreFetched folder files more
+
+-- what is answered to two files
+abbrev pub two_files : (List ℕ → List ℕ → Answer → Type 0) → List (List ℕ) → Answer → Type 0
+two_files Answers [] a = ⊥
+two_files Answers (one ∷ []) a = ⊥
+two_files Answers (one ∷ two ∷ []) a = Answers one two a
+two_files Answers (one ∷ two ∷ three ∷ more) a = ⊥
+
+-- what is answered to three files
+abbrev pub three_files : (List ℕ → List ℕ → List ℕ → Answer → Type 0) → List (List ℕ) → Answer → Type 0
+three_files Answers [] a = ⊥
+three_files Answers (one ∷ []) a = ⊥
+three_files Answers (one ∷ two ∷ []) a = ⊥
+three_files Answers (one ∷ two ∷ three ∷ []) a = Answers one two three a
+three_files Answers (one ∷ two ∷ three ∷ four ∷ more) a = ⊥
+
+-- what is answered to the bytes of an order's files
+abbrev pub BytesAnswer : Order → List (List ℕ) → Answer → Type 0
+BytesAnswer (admit q t) contents a = two_files AdmitAnswers contents a
+BytesAnswer (replay c q t) contents a = three_files ReplayAnswers contents a
+
+-- the answers to an order, each with its cause: the files are fetched in their order, and then their bytes are examined
+pub data OrderAnswers (old new : Told) (order : Order) (a : Answer) : Type 0 where
+  fetch_ends : (before : List File) (file : File) (after : List File) (contents : List (List ℕ)) → files_of order ≡ before ++ file ∷ after
+      → AreFetched old before contents → FetchEnds old new file.source file.name a → OrderAnswers old new order a
+  answered : (contents : List (List ℕ)) → AreFetched old (files_of order) contents → BytesAnswer order contents a
+      → OrderAnswers old new order a
 
 -- the answers to the words: usage where they are no order
 abbrev pub Answers : Told → Told → Option Order → Answer → Type 0

@@ -9,7 +9,7 @@ use Rattle.path_server.specs.declared.admission.Admit.TheVariants.{Broken, Wide}
 use Rattle.path_server.specs.declared.settings.Setting.{Setting}
 use Rattle.trace_replay.specs.Spelling.{IsTraceText}
 use Rattle.ccac_ports.specs.Ports.{Appends}
-use Rattle.ccac_cli.specs.Admitting.{IsQuestionText}
+use Rattle.thin_texts.specs.Questions.{IsSettingText}
 use Rattle.ccac_cli.specs.Commands.{Order, admit}
 use Rattle.ccac_cli.specs.Ended.{Got}
 use Rattle.ccac_cli.specs.Fetched.{IsFetched, Told}
@@ -26,7 +26,7 @@ pub record Examination (folder : Told) (order : Option Order) : Type 0 where
   pub trace : List ℕ
   pub trace_fetched : IsFetched folder Trace trace_name trace
   pub setting : Setting
-  pub question_is : IsQuestionText question setting
+  pub question_is : IsSettingText question setting
   pub shape : Shape
   pub run : Run
   pub trace_is : IsTraceText trace shape run

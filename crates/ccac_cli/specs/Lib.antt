@@ -1,12 +1,12 @@
-pub mod Thin
-pub mod ThinReading
 pub mod Commands
 pub mod Ordered
 pub mod Reports
 pub mod Shown
 pub mod Admitting
+pub mod Replays
 pub mod Fetched
 pub mod Halted
 pub mod Ended
 pub mod Settled
 pub mod Examination
+pub mod ReplayEnds

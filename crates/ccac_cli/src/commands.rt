@@ -7,22 +7,32 @@ ghost use Rattle.ccac_cli.specs.Ordered.{ordered};
 #[derive(Clone, Copy, Debug)]
 pub(crate) enum Command<'a> {
     /// Whether a path admits the run of a trace.
-    Admit { question: &'a str, trace: &'a str },
+    Admit {
+        question: &'a str,
+        trace: &'a str,
+    },
+    /// Whether the run of a trace is one of a controller's flows, and violates a question.
+    Replay {
+        controller: &'a str,
+        question: &'a str,
+        trace: &'a str,
+    },
 }
 
 /// The command that the words are by the table, if they are one.
 pub(crate) fn command_of(words: &[String]) -> Option<Command<'_>>
     ensures { option_map ordered result ≡ order_of (map string_bytes words.now) }
 {
-    if words.len() != 3 {
-        return None;
-    }
-    let word = words[0].as_str();
-    let question = words[1].as_str();
-    let trace = words[2].as_str();
-    if word == "admit" {
-        Some(Command::Admit { question, trace })
-    } else {
-        None
+    match words {
+        [word, question, trace] if word.as_str() == "admit" => Some(Command::Admit {
+            question: question.as_str(),
+            trace: trace.as_str(),
+        }),
+        [word, controller, question, trace] if word.as_str() == "replay" => Some(Command::Replay {
+            controller: controller.as_str(),
+            question: question.as_str(),
+            trace: trace.as_str(),
+        }),
+        _ => None,
     }
 }

@@ -4,6 +4,7 @@
 mod admitting;
 mod commands;
 mod fetching;
+mod replaying;
 mod reports;
 mod running;
 #[cfg(test)]

@@ -2,11 +2,13 @@ ghost use Rattle.std.specs.Prelude.{◌≡◌, IfOk, string_bytes};
 
 use path_server::Admit;
 use std::alloc::{AllocError, Global};
-use whole::Refusal;
+use trace_replay::{Replayed, RunRule};
+use whole::{Refusal, Stuck};
 
 /// A file that a command reads, as reports name it.
 #[derive(Clone, Copy, Debug, PartialEq, Eq)]
 pub(crate) enum Source {
+    Controller,
     Question,
     Trace,
 }
@@ -26,6 +28,7 @@ impl Source {
         ensures { result.now ≡ word_of self }
     {
         match self {
+            Source::Controller => "controller",
             Source::Question => "question",
             Source::Trace => "trace",
         }
@@ -36,7 +39,7 @@ impl Source {
         ensures { result ≡ limit_of self }
     {
         match self {
-            Source::Question => 65_536,
+            Source::Controller | Source::Question => 65_536,
             Source::Trace => 262_144,
         }
     }
@@ -44,15 +47,22 @@ impl Source {
 
 impl Report {
     ghost use Rattle.std.specs.Prelude.{◌≡◌, IfOk, string_bytes};
-    ghost use Rattle.ccac_cli.specs.Reports.{read_fault, refused, too_long, usage, verdict};
+    ghost use Rattle.ccac_cli.specs.Reports.{broken, read_fault, refused, replay_verdict, too_long, usage, verdict, wide};
     ghost use Rattle.ccac_cli.specs.Shown.{shown};
+
+    /// The report with this status and this text.
+    fn of(alloc: Global, status: u8, text: &str) -> Result<Report, AllocError>
+        ensures { IfOk result (λ report. shown report ≡ record { status = status; text = text.now }) }
+    {
+        let text = String::from_str(alloc, text)?;
+        Ok(Report { status, text })
+    }
 
     #[tactic(auto, unfolding(crate::specs::Reports::usage))]
     pub(crate) fn usage(alloc: Global) -> Result<Report, AllocError>
         ensures { IfOk result (λ report. shown report ≡ usage) }
     {
-        let text = format!(in alloc; "usage\n")?;
-        Ok(Report { status: 4, text })
+        Report::of(alloc, 4, "usage\n")
     }
 
     #[tactic(auto, unfolding(crate::specs::Reports::read_fault))]
@@ -86,23 +96,53 @@ impl Report {
         Ok(Report { status: 3, text })
     }
 
+    /// The report on a run that breaks a rule at a row, for a flow or, under flow 0, for all.
+    #[tactic(auto, unfolding(crate::specs::Reports::broken))]
+    fn broken(alloc: Global, rule: RunRule, row: u32, flow: u32) -> Result<Report, AllocError>
+        ensures { IfOk result (λ report. shown report ≡ broken rule row flow) }
+    {
+        let text = match rule {
+            RunRule::Shape => format!(in alloc; "broken shape row {row} flow {flow}\n")?,
+            RunRule::P(number) => format!(in alloc; "broken P{number} row {row} flow {flow}\n")?,
+            RunRule::Opening => format!(in alloc; "broken opening row {row} flow {flow}\n")?,
+            RunRule::Step => format!(in alloc; "broken step row {row} flow {flow}\n")?,
+            RunRule::Send => format!(in alloc; "broken send row {row} flow {flow}\n")?,
+        };
+        Ok(Report { status: 1, text })
+    }
+
+    /// The report on a run of which a comparison passes 128 bits.
+    #[tactic(auto, unfolding(crate::specs::Reports::wide))]
+    fn wide(alloc: Global, stuck: Stuck) -> Result<Report, AllocError>
+        ensures { IfOk result (λ report. shown report ≡ wide stuck) }
+    {
+        let row = stuck.at;
+        let text = format!(in alloc; "wide row {row}\n")?;
+        Ok(Report { status: 2, text })
+    }
+
     #[tactic(auto, unfolding(crate::specs::Reports::verdict))]
     pub(crate) fn verdict(alloc: Global, admit: Admit) -> Result<Report, AllocError>
         ensures { IfOk result (λ report. shown report ≡ verdict admit) }
     {
-        let (status, text) = match admit {
-            Admit::Yes => (0, format!(in alloc; "admitted\n")?),
+        match admit {
+            Admit::Yes => Report::of(alloc, 0, "admitted\n"),
             Admit::Broken { rule, row, flow } => {
-                (
-                    1,
-                    format!(in alloc; "broken P{rule} row {row} flow {flow}\n")?,
-                )
+                Report::broken(alloc, RunRule::P(rule), row, flow)
             }
-            Admit::Wide(stuck) => {
-                let row = stuck.at;
-                (2, format!(in alloc; "wide row {row}\n")?)
-            }
-        };
-        Ok(Report { status, text })
+            Admit::Wide(stuck) => Report::wide(alloc, stuck),
+        }
+    }
+
+    #[tactic(auto, unfolding(crate::specs::Reports::replay_verdict))]
+    pub(crate) fn replay_verdict(alloc: Global, replayed: Replayed) -> Result<Report, AllocError>
+        ensures { IfOk result (λ report. shown report ≡ replay_verdict replayed) }
+    {
+        match replayed {
+            Replayed::Violating => Report::of(alloc, 0, "violating\n"),
+            Replayed::Keeps => Report::of(alloc, 1, "keeps\n"),
+            Replayed::Broken { rule, row, flow } => Report::broken(alloc, rule, row, flow),
+            Replayed::Wide(stuck) => Report::wide(alloc, stuck),
+        }
     }
 }

@@ -1,13 +1,15 @@
 ghost use Rattle.std.specs.Prelude.{◌≡◌, ◌⊎◌, ℕ, IfOk, None, map, string_bytes};
-ghost use Rattle.ccac_cli.specs.Commands.{admit, order_of};
+ghost use Rattle.ccac_cli.specs.Commands.{admit, order_of, replay};
 ghost use Rattle.ccac_cli.specs.Ended.{Answers, Ends};
 ghost use Rattle.ccac_cli.specs.Examination.{EndsAdmitted, EndsBroken, EndsWide};
+ghost use Rattle.ccac_cli.specs.ReplayEnds.{EndsBreaking, EndsKeeping, EndsPassing, EndsViolating};
 ghost use Rattle.ccac_cli.specs.Settled.{Delivered, Settled};
 ghost use Rattle.ccac_cli.specs.Shown.{shown};
 
 use crate::admitting::admit;
 use crate::commands::{Command, command_of};
 use crate::fetching::{Halt, fetch};
+use crate::replaying::replay;
 use crate::reports::{Report, Source};
 use ccac_ports::{Folder, PutFault, Sink};
 use std::alloc::Global;
@@ -17,6 +19,8 @@ use whole::NoMemory;
 /// puts the report by one call, and gives the status.
 ///
 /// `admit QUEST TRACE` reports `admitted` with 0, `broken RULE row I flow F` with 1, and `wide row I` with 2.
+/// `replay CTRL QUEST TRACE` reports `violating` with 0, `keeps` or `broken RULE row I flow F` with 1, and `wide row I`
+/// with 2.
 /// A refused file is 3, words that are no command 4, a file that can't be read 5, a sink that fails 6,
 /// and want of memory 7.
 pub fn run<F: Folder, S: Sink>(
@@ -35,21 +39,37 @@ pub fn run<F: Folder, S: Sink>(
         result }
 
     // What the statuses of an examined trace mean, and when the words are no command.
-    ensures admitted { result ≡ 0 → EndsAdmitted
+    ensures succeeded { result ≡ 0 → (EndsAdmitted
         (record { content = F.content folder.old; faults = F.faults folder.old; excesses = F.excesses folder.old })
         (order_of (map string_bytes words.now.items))
         (record { text = S.text out.old; faults = S.faults out.old })
-        (record { text = S.text out.new; faults = S.faults out.new }) }
-    ensures broken { result ≡ 1 → EndsBroken
+        (record { text = S.text out.new; faults = S.faults out.new })) ⊎ (EndsViolating
         (record { content = F.content folder.old; faults = F.faults folder.old; excesses = F.excesses folder.old })
         (order_of (map string_bytes words.now.items))
         (record { text = S.text out.old; faults = S.faults out.old })
-        (record { text = S.text out.new; faults = S.faults out.new }) }
-    ensures wide { result ≡ 2 → EndsWide
+        (record { text = S.text out.new; faults = S.faults out.new })) }
+    ensures failed { result ≡ 1 → (EndsBroken
         (record { content = F.content folder.old; faults = F.faults folder.old; excesses = F.excesses folder.old })
         (order_of (map string_bytes words.now.items))
         (record { text = S.text out.old; faults = S.faults out.old })
-        (record { text = S.text out.new; faults = S.faults out.new }) }
+        (record { text = S.text out.new; faults = S.faults out.new })) ⊎ (EndsKeeping
+        (record { content = F.content folder.old; faults = F.faults folder.old; excesses = F.excesses folder.old })
+        (order_of (map string_bytes words.now.items))
+        (record { text = S.text out.old; faults = S.faults out.old })
+        (record { text = S.text out.new; faults = S.faults out.new })) ⊎ (EndsBreaking
+        (record { content = F.content folder.old; faults = F.faults folder.old; excesses = F.excesses folder.old })
+        (order_of (map string_bytes words.now.items))
+        (record { text = S.text out.old; faults = S.faults out.old })
+        (record { text = S.text out.new; faults = S.faults out.new })) }
+    ensures wide { result ≡ 2 → (EndsWide
+        (record { content = F.content folder.old; faults = F.faults folder.old; excesses = F.excesses folder.old })
+        (order_of (map string_bytes words.now.items))
+        (record { text = S.text out.old; faults = S.faults out.old })
+        (record { text = S.text out.new; faults = S.faults out.new })) ⊎ (EndsPassing
+        (record { content = F.content folder.old; faults = F.faults folder.old; excesses = F.excesses folder.old })
+        (order_of (map string_bytes words.now.items))
+        (record { text = S.text out.old; faults = S.faults out.old })
+        (record { text = S.text out.new; faults = S.faults out.new })) }
     ensures no_command { result ≡ 4 → order_of (map string_bytes words.now.items) ≡ None }
     ensures usage { order_of (map string_bytes words.now.items) ≡ None → (result ≡ 4) ⊎ (result ≡ 6) ⊎ (result ≡ 7) }
 {
@@ -69,6 +89,13 @@ fn report_on<F: Folder>(alloc: Global, words: &[String], folder: &mut F) -> Resu
     let answer = match command_of(words) {
         None => return Ok(Report::usage(alloc)?),
         Some(Command::Admit { question, trace }) => admit_files(alloc, folder, question, trace),
+        Some(
+            Command::Replay {
+                controller,
+                question,
+                trace,
+            },
+        ) => replay_files(alloc, folder, controller, question, trace),
     };
     match answer {
         Ok(report) | Err(Halt::Report(report)) => Ok(report),
@@ -91,6 +118,33 @@ fn admit_files<F: Folder>(
     let question = fetch(alloc, folder, Source::Question, question)?;
     let trace = fetch(alloc, folder, Source::Trace, trace)?;
     match admit(alloc, question.as_slice(), trace.as_slice()) {
+        Ok(report) => Ok(report),
+        Err(NoMemory) => Err(Halt::NoMemory),
+    }
+}
+
+/// Fetches the three files in their order, and answers to them.
+fn replay_files<F: Folder>(
+    alloc: Global,
+    folder: &mut F,
+    controller: &str,
+    question: &str,
+    trace: &str,
+) -> Result<Report, Halt>
+    ensures { Settled
+        (record { content = F.content folder.old; faults = F.faults folder.old; excesses = F.excesses folder.old })
+        (record { content = F.content folder.new; faults = F.faults folder.new; excesses = F.excesses folder.new })
+        (replay controller.now question.now trace.now) result }
+{
+    let controller_text = fetch(alloc, folder, Source::Controller, controller)?;
+    let question_text = fetch(alloc, folder, Source::Question, question)?;
+    let trace_text = fetch(alloc, folder, Source::Trace, trace)?;
+    match replay(
+        alloc,
+        controller_text.as_slice(),
+        question_text.as_slice(),
+        trace_text.as_slice(),
+    ) {
         Ok(report) => Ok(report),
         Err(NoMemory) => Err(Halt::NoMemory),
     }

@@ -35,6 +35,9 @@ const ROOMIER: &str =
 const NEVER: &str =
     question!("rate 1/2" "jitter 0" "rtt 1" "buffer none" "budget 100000" "require false");
 
+const ASSUMING: &str =
+    question!("rate 1/2" "jitter 0" "rtt 1" "buffer none" "budget 100000" "assume true" "require true");
+
 const HALVES: &str =
     trace!("over 2" "credit 0" "row 0 0" "flow 1 4 0 0" "row 1 0" "flow 1 4 1 0" "row 2 0" "flow 1 4 2 0" "row 3 0" "flow 1 4 3 0");
 
@@ -63,7 +66,7 @@ const TWO_FLOWS: &str =
     "ccac-trace 1\nshape 2 0 2 1\nover 1\ncredit 0\nrow 0 0\nflow 1 170141183460469231731687303715884105727 0 0\nflow 2 170141183460469231731687303715884105727 0 0\nrow 1 0\nflow 1 170141183460469231731687303715884105727 1 0\nflow 2 170141183460469231731687303715884105727 0 0\nrow 2 0\nflow 1 170141183460469231731687303715884105727 2 0\nflow 2 170141183460469231731687303715884105727 0 0\nrow 3 0\nflow 1 170141183460469231731687303715884105727 3 0\nflow 2 170141183460469231731687303715884105727 0 0\nend\n";
 
 /// A question, a trace, and the status and report to which `admit` comes.
-const CASES: [(&str, &str, u8, &str); 16] = [
+const CASES: [(&str, &str, u8, &str); 17] = [
     (SLOW, HALVES, 0, "admitted\n"),
     (SLOW, WHOLES, 1, "broken P3 row 1 flow 0\n"),
     (LATE, WASTEFUL, 1, "broken P5 row 2 flow 0\n"),
@@ -71,8 +74,9 @@ const CASES: [(&str, &str, u8, &str); 16] = [
     (BUFFERED, FILLED, 0, "admitted\n"),
     (ROOMIER, FILLED, 1, "broken P8 row 1 flow 0\n"),
     (BUFFERED, OVERFULL, 1, "broken P7 row 0 flow 0\n"),
-    (EXACT, TWO_FLOWS, 2, "wide row 1\n"),
-    (NEVER, HALVES, 3, "refused question Q99 line 1\n"),
+    (TWO_FLOWS_ASKED, TWO_FLOWS, 2, "wide row 1\n"),
+    (NEVER, HALVES, 0, "admitted\n"),
+    (ASSUMING, HALVES, 3, "refused question Q99 line 1\n"),
     ("", HALVES, 3, "refused question Q99 line 1\n"),
     ("\u{1}\u{ff}", HALVES, 3, "refused question Q99 line 1\n"),
     (SLOW, "", 3, "refused trace V1 line 1\n"),
@@ -170,6 +174,7 @@ fn words_of_no_command_are_usage(rt: HostRuntime) -> Result<(), Fail> {
     assert_ends!(rt; [], folder, 4, "usage\n");
     assert_ends!(rt; ["admit", "q"], folder, 4, "usage\n");
     assert_ends!(rt; ["admit", "q", "t", "u"], folder, 4, "usage\n");
+    assert_ends!(rt; ["replay", "q", "t"], folder, 4, "usage\n");
     assert_ends!(rt; ["admits", "q", "t"], folder, 4, "usage\n");
     Ok(())
 }
@@ -184,5 +189,147 @@ fn a_sink_that_fails_has_got_a_prefix(rt: HostRuntime) -> Result<(), Fail> {
         assert_eq!(rt; run(rt.alloc(), &words, &mut folder, &mut sink), 6);
         assert_eq!(rt; sink.text(), kept.as_bytes());
     }
+    Ok(())
+}
+
+/// A trace of one flow with one state and two controlled rows of four, over 1, without credit, waste and losses: on each
+/// row what the flow has sent and what was served of it, and on the last two the state.
+macro_rules! window_trace {
+    ($zero:literal $one:literal $two:literal $three:literal) => {
+        concat!(
+            "ccac-trace 1\nshape 1 1 2 1\nover 1\ncredit 0\nrow 0 0\nflow 1 ", $zero, "\nrow 1 0\nflow 1 ", $one,
+            "\nrow 2 0\nflow 1 ", $two, "\nrow 3 0\nflow 1 ", $three, "\nend\n"
+        )
+    };
+}
+
+const FIXED_WINDOW: &str =
+    "ccac-controller 1\nstate cwnd data init 2 2\nrule otherwise\nwindow cwnd\nend\n";
+
+const HALF_WINDOW: &str =
+    "ccac-controller 1\nstate cwnd data init 1/2 2\nrule otherwise\nwindow cwnd\nend\n";
+
+/// Two rules whose guards always hold: the first alone fires.
+const FIRST_RULE: &str =
+    "ccac-controller 1\nstate cwnd data init 2 2\nrule when acked >= 0\nset cwnd = 3\nrule when acked >= 0\nset cwnd = 4\nrule otherwise\nwindow cwnd\nend\n";
+
+const SMOOTH: &str =
+    question!("rate 1" "jitter 1" "rtt 1" "buffer none" "budget 100000" "require S@1 - S@0 <= 1");
+
+const SMOOTHER: &str =
+    question!("rate 1" "jitter 1" "rtt 1" "buffer none" "budget 100000" "require S@1 - S@0 <= 2");
+
+const FASTER: &str =
+    question!("rate 1" "jitter 0" "rtt 1" "buffer none" "budget 100000" "require S@1 - S@0 >= 2");
+
+const TWO_FLOWS_ASKED: &str =
+    "ccac-question 1\nflows 2\nsteps 1\nrate 1\njitter 0\nrtt 1\nbuffer none\nbudget 100000\nrequire true\nend\n";
+
+const CAUGHT_UP: &str = window_trace!("2 0 0" "2 0 0" "3 1 0 2" "3 3 0 2");
+
+/// A controller, a question, a trace, and the status and report to which `replay` comes.
+const REPLAYS: [(&str, &str, &str, u8, &str); 14] = [
+    (FIXED_WINDOW, SMOOTH, CAUGHT_UP, 0, "violating\n"),
+    (FIXED_WINDOW, SMOOTHER, CAUGHT_UP, 1, "keeps\n"),
+    (
+        FIXED_WINDOW,
+        SMOOTH,
+        window_trace!("2 0 0" "2 0 0" "3 1 0 2" "3 4 0 2"),
+        1,
+        "broken P2 row 3 flow 1\n",
+    ),
+    (
+        FIRST_RULE,
+        FASTER,
+        window_trace!("2 0 0" "2 1 0" "3 2 0 2" "5 3 0 3"),
+        0,
+        "violating\n",
+    ),
+    (
+        FIRST_RULE,
+        FASTER,
+        window_trace!("2 0 0" "2 1 0" "3 2 0 2" "6 3 0 4"),
+        1,
+        "broken step row 3 flow 1\n",
+    ),
+    (
+        FIXED_WINDOW,
+        SMOOTH,
+        window_trace!("2 0 0" "2 0 0" "3 1 0 3" "3 3 0 2"),
+        1,
+        "broken opening row 2 flow 1\n",
+    ),
+    (
+        FIXED_WINDOW,
+        SMOOTH,
+        window_trace!("2 0 0" "2 0 0" "2 1 0 2" "2 2 0 2"),
+        1,
+        "broken send row 3 flow 1\n",
+    ),
+    (
+        FIXED_WINDOW,
+        SMOOTH,
+        HALVES,
+        1,
+        "broken shape row 0 flow 0\n",
+    ),
+    (
+        HALF_WINDOW,
+        SMOOTH,
+        window_trace!("2 0 0" "2 0 0" "3 1 0 170141183460469231731687303715884105727" "3 3 0 2"),
+        2,
+        "wide row 2\n",
+    ),
+    ("", SMOOTH, CAUGHT_UP, 3, "refused controller G99 line 1\n"),
+    (
+        FIXED_WINDOW,
+        "",
+        CAUGHT_UP,
+        3,
+        "refused question Q99 line 1\n",
+    ),
+    (
+        FIXED_WINDOW,
+        SMOOTH,
+        "ccac-trace 1\nshape 1 1 2 1\nover 1\ncredit 0\nrow 0 0\nflow 1 2 0 0\nrow 1 0\nflow 1 2 0 0\nrow 2 0\nflow 1 3 1 0 2\nrow 3 0\nflow 1 3 3 0 2\n",
+        3,
+        "refused trace V6 line 13\n",
+    ),
+    (
+        FIXED_WINDOW,
+        SMOOTH,
+        "ccac-trace 1\nshape 1 1 2 1\nover 1\ncredit 0\nrow 0 0\nflow 1 2 0 0\nrow 1 0\nflow 1 2 0 0\nrow 2 0\nflow 1 3 1 0 2\nrow 3 0\nflow 2 3 3 0 2\nend\n",
+        3,
+        "refused trace V4 line 12\n",
+    ),
+    ("", "", "", 3, "refused controller G99 line 1\n"),
+];
+
+#[test]
+fn replay_reports_what_comes_of_the_run(rt: HostRuntime) -> Result<(), Fail> {
+    let words = words_of(rt.alloc(), &["replay", "c", "q", "t"])?;
+    for (controller, question, trace, status, report) in REPLAYS {
+        let mut folder = MemFolder::new(rt.alloc());
+        let mut sink = MemSink::new(rt.alloc());
+        assert_eq!(rt; folder.add("c", controller.as_bytes()), Ok(()));
+        assert_eq!(rt; folder.add("q", question.as_bytes()), Ok(()));
+        assert_eq!(rt; folder.add("t", trace.as_bytes()), Ok(()));
+        assert_eq!(rt; run(rt.alloc(), &words, &mut folder, &mut sink), status);
+        assert_eq!(rt; sink.text(), report.as_bytes());
+    }
+    Ok(())
+}
+
+#[test]
+fn files_of_a_replay_are_fetched_in_order(rt: HostRuntime) -> Result<(), Fail> {
+    let words = ["replay", "c", "q", "t"];
+    let mut folder = folder_of_halves(rt.alloc())?;
+    assert_ends!(rt; words, folder, 5, "read fault controller\n");
+    assert_eq!(rt; folder.add("c", FIXED_WINDOW.as_bytes()), Ok(()));
+    assert_ends!(rt; ["replay", "c", "missing", "t"], folder, 5, "read fault question\n");
+    assert_ends!(rt; ["replay", "c", "q", "missing"], folder, 5, "read fault trace\n");
+    let long_controller = vec![in rt.alloc(); b'a'; 65_537]?;
+    assert_eq!(rt; folder.add("c", long_controller.as_slice()), Ok(()));
+    assert_ends!(rt; words, folder, 3, "refused controller too long\n");
     Ok(())
 }

@@ -30,10 +30,10 @@ use Rattle.ctrl_meaning.specs.Example.{controller, one_flow, otherwise, plain, r
 use Rattle.ctrl_meaning.specs.Limits.{FitsBoth, IsControlled}
 use Rattle.ctrl_meaning.proofs.Sums.{entry_is, given}
 
-one_of : {X : Type 0} (P : X → Type 0) (x : X) → P x → All P (x ∷ [])
+pub one_of : {X : Type 0} (P : X → Type 0) (x : X) → P x → All P (x ∷ [])
 one_of P x here = All-cons P x [] here (All-nil P)
 
-true_test : test_of True ≡ always
+pub true_test : test_of True ≡ always
 true_test = ap test_of (sym rolls-True) ∙ fold-roll-Gate Test test_step Gate-F.True
 
 cmp_test : (left : Lin) (rel : Rel5) (right : Lin) → test_of (Cmp left rel right) ≡ comparison left rel right

@@ -142,7 +142,7 @@ not_sends_law c r at some ready is =
 
 -- ---- the parts of an answer
 
-yes_parts : (f : Result ℕ Stuck) (d : ℕ → Result (Option ℕ) Stuck) (e : Result Bool Stuck) (k : ℕ) → after_guards f d e ≡ Yes k
+pub yes_parts : (f : Result ℕ Stuck) (d : ℕ → Result (Option ℕ) Stuck) (e : Result Bool Stuck) (k : ℕ) → after_guards f d e ≡ Yes k
     → (f ≡ Ok k) × (d k ≡ Ok None) × (e ≡ Ok true)
 yes_parts (Err stuck) d e k is = absurd (cc)
 yes_parts (Ok j) d e k is = by (d j) e refl is
@@ -177,7 +177,7 @@ state_parts (Ok k) d e j is = by (d k) e refl is
     by (Ok None) (Ok false) q is = absurd (cc)
     by (Ok None) (Ok true) q is = absurd (cc)
 
-arrival_parts : (f : Result ℕ Stuck) (d : ℕ → Result (Option ℕ) Stuck) (e : Result Bool Stuck) → after_guards f d e ≡ Arrival
+pub arrival_parts : (f : Result ℕ Stuck) (d : ℕ → Result (Option ℕ) Stuck) (e : Result Bool Stuck) → after_guards f d e ≡ Arrival
     → StateParts f d (Ok None) × (e ≡ Ok false)
 arrival_parts (Err stuck) d e is = absurd (cc)
 arrival_parts (Ok k) d e is = by (d k) e refl is
@@ -204,7 +204,7 @@ step_wide_parts (Ok k) d e stuck is = by (d k) e refl is
     by (Ok None) (Ok false) q is = absurd (cc)
     by (Ok None) (Ok true) q is = absurd (cc)
 
-send_wide_parts : (f : Result ℕ Stuck) (d : ℕ → Result (Option ℕ) Stuck) (e : Result Bool Stuck) (stuck : Stuck) → after_guards f d e ≡ SendWide stuck
+pub send_wide_parts : (f : Result ℕ Stuck) (d : ℕ → Result (Option ℕ) Stuck) (e : Result Bool Stuck) (stuck : Stuck) → after_guards f d e ≡ SendWide stuck
     → StateParts f d (Ok None) × (e ≡ Err stuck)
 send_wide_parts (Err other) d e stuck is = absurd (cc)
 send_wide_parts (Ok k) d e stuck is = by (d k) e refl is
@@ -297,7 +297,7 @@ send_wide_law c s r row flow stuck ready is =
     }
 
 -- only one rule is the least whose guard is true
-one_fires : (c : Controller) (r : Run) (at : Reading) (j k : ℕ) → Fires c r at j → Fires c r at k → j ≡ k
+pub one_fires : (c : Controller) (r : Run) (at : Reading) (j k : ℕ) → Fires c r at j → Fires c r at k → j ≡ k
 one_fires c r at j k one two =
     elim (cases_lt j k) [
       | inl less ↦ absurd (two.least j less one.holds)

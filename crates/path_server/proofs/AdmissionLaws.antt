@@ -41,15 +41,19 @@ never_yes place (Ok true) is = cc
 never_yes place (Ok false) is = cc
 never_yes place (Err stuck) is = cc
 
--- a place that is passed keeps its rule, and one at which the outcome is false breaks it
+-- a place at which the outcome is true keeps its rule, as does one that is passed; one at which it is false breaks it
+pub rule_holds : (p : Path) (r : Run) → IsPath p → (place : Place)
+    → outcome place.row (claim_of p r place.rule place.row place.flow) ≡ Ok true → HoldsAt p r place
+rule_holds p r path place is =
+    (claims_mean_rules p r place.rule place.row place.flow path).0
+    (outcome_says place.row (claim_of p r place.rule place.row place.flow) true is)
+
 holds_at : (p : Path) (r : Run) → IsPath p → (place : Place) → examined p r place ≡ Ok tt → HoldsAt p r place
 unfolding examined
 holds_at p r path place is =
-    let o = passed_outcome place (outcome place.row (claim_of p r place.rule place.row place.flow)) is in
-    (claims_mean_rules p r place.rule place.row place.flow path).0
-    (outcome_says place.row (claim_of p r place.rule place.row place.flow) true o)
+    rule_holds p r path place (passed_outcome place (outcome place.row (claim_of p r place.rule place.row place.flow)) is)
 
-breaks_at : (p : Path) (r : Run) → IsPath p → (rule : PathRule) (i f : ℕ)
+pub breaks_at : (p : Path) (r : Run) → IsPath p → (rule : PathRule) (i f : ℕ)
     → outcome i (claim_of p r rule i f) ≡ Ok false → RuleHolds p r rule i f → ⊥
 breaks_at p r path rule i f is holds =
     outcome_says i (claim_of p r rule i f) false is ((claims_mean_rules p r rule i f path).1 holds)
@@ -79,17 +83,13 @@ number_below Buffer = omega arith
 number_below Loss = omega arith
 number_below WasteRate = omega arith
 
--- where nothing is found, every place is passed
-every_place : (p : Path) (r : Run) → first (examined p r) (places r) ≡ Ok tt → (rule : PathRule) (i f : ℕ)
-    → i < length r.rows → f ≤ flows_of r → examined p r (at_place i rule f) ≡ Ok tt
-unfolding places places_of_row places_of_rule
-every_place p r none rule i f inside among =
-    let rows : first (λ k. first (examined p r) (places_of_row r k)) (below (length r.rows)) ≡ Ok tt =
-    sym (first-flat_map (examined p r) (places_of_row r) (below (length r.rows))) ∙ none in
-    let row : first (examined p r) (places_of_row r i) ≡ Ok tt =
-    passed_below (λ k. first (examined p r) (places_of_row r k)) i (length r.rows) rows inside in
+-- where nothing is found on a row, every place of the row is passed
+every_place_of_row : (p : Path) (r : Run) (i : ℕ) → first (examined p r) (places_of_row r i) ≡ Ok tt → (rule : PathRule) (f : ℕ)
+    → f ≤ flows_of r → examined p r (at_place i rule f) ≡ Ok tt
+unfolding places_of_row places_of_rule
+every_place_of_row p r i none rule f among =
     let each : first (λ k. first (examined p r) (places_of_rule r i k)) rules ≡ Ok tt =
-    sym (first-flat_map (examined p r) (places_of_rule r i) rules) ∙ row in
+    sym (first-flat_map (examined p r) (places_of_rule r i) rules) ∙ none in
     let Passed : PathRule → Type 0 = λ k. first (examined p r) (places_of_rule r i k) ≡ Ok tt in
     let here : Passed (get_or rules (number rule) Start) =
     All-get_or Passed rules (number rule) Start (number_below rule)
@@ -98,6 +98,19 @@ every_place p r none rule i f inside among =
     let flows : first (λ k. examined p r (at_place i rule k)) (below (flows_of r + 1)) ≡ Ok tt =
     sym (first-map (examined p r) (at_place i rule) (below (flows_of r + 1))) ∙ mine in
     passed_below (λ k. examined p r (at_place i rule k)) f (flows_of r + 1) flows (omega arith)
+
+-- where nothing is found on any row, the path admits the run
+pub rows_admit : (p : Path) (r : Run) → IsPath p → ((i : ℕ) → i < length r.rows → first (examined p r) (places_of_row r i) ≡ Ok tt) → Admitted p r
+unfolding Admitted
+rows_admit p r path none = λ rule i f inside among.
+    holds_at p r path (at_place i rule f) (every_place_of_row p r i (none i inside) rule f among)
+
+rows_of_places : (p : Path) (r : Run) → first (examined p r) (places r) ≡ Ok tt → (i : ℕ) → i < length r.rows
+    → first (examined p r) (places_of_row r i) ≡ Ok tt
+unfolding places
+rows_of_places p r none i inside =
+    passed_below (λ k. first (examined p r) (places_of_row r k)) i (length r.rows)
+    (sym (first-flat_map (examined p r) (places_of_row r) (below (length r.rows))) ∙ none) inside
 
 -- what was answered, was found
 found_none : (p : Path) (r : Run) (t : Result (Unit {0}) Admit) → first (examined p r) (places r) ≡ t → answer t ≡ Yes → t ≡ Ok tt
@@ -112,9 +125,9 @@ found_stop (Ok _) stop is not = absurd (not (sym is))
 found_stop (Err other) stop is not = ap Err is
 
 pub admitted_law : (p : Path) (r : Run) → IsPath p → admission p r ≡ Yes → Admitted p r
-unfolding admission Admitted
-admitted_law p r path answered = λ rule i f inside among.
-    holds_at p r path (at_place i rule f) (every_place p r (found_none p r (first (examined p r) (places r)) refl answered) rule i f inside among)
+unfolding admission
+admitted_law p r path answered =
+    rows_admit p r path (rows_of_places p r (found_none p r (first (examined p r) (places r)) refl answered))
 
 pub broken_law : (p : Path) (r : Run) (rule i f : ℕ) → IsPath p → admission p r ≡ Broken rule i f → IsFirstBroken p r rule i f
 unfolding admission examined
@@ -154,31 +167,35 @@ wide_law p r stuck path is =
     }
 
 -- what holds of each number below n, of each place of several lists, and of one in the midst of a list
-all_below : (P : ℕ → Type 0) (n : ℕ) → ((k : ℕ) → k < n → P k) → All P (below n)
+pub all_below : (P : ℕ → Type 0) (n : ℕ) → ((k : ℕ) → k < n → P k) → All P (below n)
 all_below P zero each = All-nil P
 all_below P (suc n) each = All-push P (below n) n (all_below P n (λ k less. each k (omega arith))) (each n (omega arith))
 
-all_flat_map : {A B : Type 0} (P : B → Type 0) (g : A → List B) (xs : List A) → All (λ x. All P (g x)) xs → All P (flat_map g xs)
+pub all_flat_map : {A B : Type 0} (P : B → Type 0) (g : A → List B) (xs : List A) → All (λ x. All P (g x)) xs → All P (flat_map g xs)
 all_flat_map P g [] each = All-nil P
 all_flat_map {A} P g (x ∷ xs) each =
     let Each : A → Type 0 = λ y. All P (g y) in
     All-append P (g x) (flat_map g xs) (All-head Each x xs each) (all_flat_map P g xs (All-tail Each x xs each))
 
-all_amid : {A : Type 0} (P : A → Type 0) (before : List A) (x : A) (after : List A) → All P (before ++ x ∷ after) → P x
+pub all_amid : {A : Type 0} (P : A → Type 0) (before : List A) (x : A) (after : List A) → All P (before ++ x ∷ after) → P x
 all_amid P [] x after each = All-head P x after each
 all_amid P (y ∷ before) x after each = all_amid P before x after (All-tail P y (before ++ x ∷ after) each)
 
--- a run that the path admits keeps each rule at each place that is examined
-holds_everywhere : (p : Path) (r : Run) → Admitted p r → All (HoldsAt p r) (places r)
-unfolding Admitted places places_of_row places_of_rule
-holds_everywhere p r admitted =
-    all_flat_map (HoldsAt p r) (places_of_row r) (below (length r.rows))
-    (all_below (λ i. All (HoldsAt p r) (places_of_row r i)) (length r.rows) (λ i inside.
+-- a run that the path admits keeps each rule at each place of a row, and so at each that is examined
+pub holds_on_row : (p : Path) (r : Run) (i : ℕ) → Admitted p r → i < length r.rows → All (HoldsAt p r) (places_of_row r i)
+unfolding Admitted places_of_row places_of_rule
+holds_on_row p r i admitted inside =
     all_flat_map (HoldsAt p r) (places_of_rule r i) rules
     (All-from_get_or (λ rule. All (HoldsAt p r) (places_of_rule r i rule)) rules Start (λ k _.
     All-map (HoldsAt p r) (at_place i (get_or rules k Start)) (below (flows_of r + 1))
     (all_below (λ f. HoldsAt p r (at_place i (get_or rules k Start) f)) (flows_of r + 1) (λ f among.
-    admitted (get_or rules k Start) i f inside (omega arith)))))))
+    admitted (get_or rules k Start) i f inside (omega arith)))))
+
+holds_everywhere : (p : Path) (r : Run) → Admitted p r → All (HoldsAt p r) (places r)
+unfolding places
+holds_everywhere p r admitted =
+    all_flat_map (HoldsAt p r) (places_of_row r) (below (length r.rows))
+    (all_below (λ i. All (HoldsAt p r) (places_of_row r i)) (length r.rows) (λ i inside. holds_on_row p r i admitted inside))
 
 -- so nothing is found in it where no weighing is stuck
 pub complete_law : (p : Path) (r : Run) → IsPath p → Admitted p r → NothingPasses p r → admission p r ≡ Yes

@@ -52,7 +52,7 @@ rate_exact n a b q i d from to ia db few back small =
     )
 
 -- a least common multiple is at most the product
-lcm_to : (a b : ℕ) → 0 < a → 0 < b → lcm_of a b ≤ a * b
+pub lcm_to : (a b : ℕ) → 0 < a → 0 < b → lcm_of a b ≤ a * b
 lcm_to a b some other =
     let product : 0 < a * b = omega (arith, mul-le-mul_left a other) in
     le_of_dvd product ((IsLcm-lcm_of a b some other).2 (a * b) (dvd-mul_right_of_dvd a (dvd_refl a) b) (dvd-mul_left_of_dvd b (dvd_refl b) a))

@@ -52,8 +52,9 @@ fn examine(path: &Path, run: &Run) -> Result<(), Admit>
     Ok(())
 }
 
-/// The rules of a row in order.
-fn examine_row(path: &Path, run: &Run, row: u32) -> Result<(), Admit>
+/// The first finding on a row, its rules in their order: `Err` carries the rule that is broken or the weighing that
+/// passes, and never `Admit::Yes`. The row is one of the run's. It takes no memory.
+pub fn examine_row(path: &Path, run: &Run, row: u32) -> Result<(), Admit>
     requires path_in { IsPath path.now }
     requires run_in { IsRun run.now }
     requires row_in { row < length run.now.rows }

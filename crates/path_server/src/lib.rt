@@ -9,5 +9,5 @@ mod scales;
 mod server_rules;
 mod settings;
 
-pub use admission::{Admit, admits};
+pub use admission::{Admit, admits, examine_row};
 pub use settings::{Path, Setting};

@@ -1,3 +1,4 @@
 pub mod Columns
+pub mod Fitting
 pub mod Limits
 pub mod Runs

@@ -19,7 +19,7 @@ ok_not_err : {E : Type 0} (e : E) → (let r : Result (Unit {0}) E = Ok tt in r 
 ok_not_err e same = cc
 
 -- both answers are Ok where the two together are
-cases_ok : {E : Type 0} (t u : Result (Unit {0}) E) → and_then t u ≡ Ok tt → (t ≡ Ok tt) × (u ≡ Ok tt)
+pub cases_ok : {E : Type 0} (t u : Result (Unit {0}) E) → and_then t u ≡ Ok tt → (t ≡ Ok tt) × (u ≡ Ok tt)
 cases_ok (Ok _) u same = (refl, same)
 cases_ok (Err e) u same = absurd (ok_not_err e (sym same))
 
@@ -121,3 +121,15 @@ passed_below test i (suc n) none inside =
           let same : n ≡ i = omega arith in
           subst (λ m. test m ≡ Ok tt) same (cases_ok (test n) (Ok tt) split.1).0
     ]
+
+then_none : {E : Type 0} (u : Result (Unit {0}) E) → and_then u (Ok tt) ≡ u
+then_none (Ok _) = refl
+then_none (Err e) = refl
+
+-- the numbers below n + 1 are those below n, and then n
+pub first_one_more : {E : Type 0} (test : ℕ → Result (Unit {0}) E) (n : ℕ)
+    → first test (below (n + 1)) ≡ and_then (first test (below n)) (test n)
+first_one_more test n =
+    ap (λ m. first test (below m)) (add-one n)
+    ∙ first_below_suc test n (first test (below n)) (test n) refl refl
+    ∙ ap (and_then (first test (below n))) (then_none (test n))

@@ -19,8 +19,8 @@ returns-in-Ok g c =
     let said = status_said _ _ _ _ _ _ ends in
     record {
       ended = ends;
-      admitted = said.zero;
-      broken = said.one;
+      succeeded = said.zero;
+      failed = said.one;
       wide = said.two;
       no_command = said.four;
       usage = usage_said _ _ _ _ _ _ ends;
@@ -29,8 +29,8 @@ returns-in-Ok g c =
 pub returns-in-Err : goal.returns-in-Err
 returns-in-Err g c = record {
   ended = no_memory (nothing_put (g.S.Sink.text c.args.out.now));
-  admitted = λ e. absurd (omega arith);
-  broken = λ e. absurd (omega arith);
+  succeeded = λ e. absurd (omega arith);
+  failed = λ e. absurd (omega arith);
   wide = λ e. absurd (omega arith);
   no_command = λ e. absurd (omega arith);
   usage = λ e. inr (inr refl);

@@ -1,4 +1,3 @@
-use Rattle.std.proofs.Common.{arith}
 use Rattle.weighing.proofs.Scaling.{left_size, right_size, times_to}
 use Rattle.weighing.proofs.scales.Num.scaled.Goals as goal
 

@@ -1,0 +1,37 @@
+-- What is answered to a controller, a question and a trace: the first that is refused, in this order; then what comes of
+-- replaying the run.
+use Rattle.std.specs.Prelude.{ℕ, List, unsigned_abs}
+use Rattle.whole.specs.declared.answers.Refusal.{Refusal}
+use Rattle.run_rows.specs.declared.shapes.Shape.{Shape}
+use Rattle.run_rows.specs.declared.rows.Run.{Run}
+use Rattle.ctrl_types.specs.declared.controllers.Controller.{Controller}
+use Rattle.question_text.specs.declared.questions.Question.{Question}
+use Rattle.trace_replay.specs.Refused.{IsRefused}
+use Rattle.trace_replay.specs.Replaying.{replaying}
+use Rattle.trace_replay.specs.Spelling.{IsTraceText}
+use Rattle.thin_texts.specs.Controllers.{IsControllerText}
+use Rattle.thin_texts.specs.ControllerReading.{refusal as not_plain_controller}
+use Rattle.thin_texts.specs.Questions.{IsTextOf, not_plain}
+use Rattle.ccac_cli.specs.Reports.{Answer, refused, replay_verdict}
+use Rattle.ccac_cli.specs.declared.reports.Source.TheVariants.{Controller as ControllerFile, Question as QuestionFile, Trace}
+
+-- the bytes are the text of a question about this controller
+abbrev pub IsAsked : Controller → List ℕ → Question → Type 0
+IsAsked c bytes q = IsTextOf (unsigned_abs c.den) bytes q
+
+-- the one answer to a trace, where a controller is asked a question
+pub data RunAnswers (c : Controller) (q : Question) (trace : List ℕ) : Answer → Type 0 where
+  trace_refused : (r : Refusal) → IsRefused trace r → RunAnswers c q trace (refused Trace r)
+  replayed : (shape : Shape) (r : Run) → IsTraceText trace shape r → RunAnswers c q trace (replay_verdict (replaying c q r))
+
+-- the one answer to a question and a trace, about a controller
+pub data AskAnswers (c : Controller) (question trace : List ℕ) : Answer → Type 0 where
+  question_refused : ((q : Question) → IsAsked c question q → ⊥) → AskAnswers c question trace (refused QuestionFile not_plain)
+  question_read : (q : Question) (a : Answer) → IsAsked c question q → RunAnswers c q trace a → AskAnswers c question trace a
+
+-- the one answer to these bytes: the controller is read first
+pub data ReplayAnswers (controller question trace : List ℕ) : Answer → Type 0 where
+  controller_refused : ((c : Controller) → IsControllerText controller c → ⊥)
+      → ReplayAnswers controller question trace (refused ControllerFile not_plain_controller)
+  controller_read : (c : Controller) (a : Answer) → IsControllerText controller c → AskAnswers c question trace a
+      → ReplayAnswers controller question trace a

@@ -1,0 +1,17 @@
+pub mod Fields
+pub mod CommonLaws
+pub mod ItemLaws
+pub mod RequirementLaws
+pub mod QuestionLaws
+pub mod AskedLaws
+pub mod ControllerItems
+pub mod RuleSteps
+pub mod ScaleLaws
+pub mod ControllerLines
+pub mod ControllerTaken
+pub mod ControllerAgain
+pub mod ControllerText
+pub mod ControllerShape
+pub mod ControllerDen
+pub mod ControllerLaws
+pub mod ControllerForms

@@ -1,0 +1,4 @@
+pub mod Questions
+pub mod QuestionReading
+pub mod Controllers
+pub mod ControllerReading
