@@ -9,13 +9,13 @@ use Rattle.path_server.specs.declared.settings.Setting.{Setting}
 use Rattle.path_server.proofs.AdmissionLaws.{admitted_law, broken_law, wide_law}
 use Rattle.trace_replay.specs.Spelling.{IsTraceText}
 use Rattle.ccac_ports.specs.Ports.{Appends}
-use Rattle.thin_texts.specs.Questions.{IsSettingText}
 use Rattle.ccac_cli.specs.Admitting.{AdmitAnswers, TraceAnswers, examined, question_read, question_refused, trace_refused}
 use Rattle.ccac_cli.specs.Commands.{admit}
 use Rattle.ccac_cli.specs.Ended.{Got}
 use Rattle.ccac_cli.specs.Examination.{Examination}
 use Rattle.ccac_cli.specs.Fetched.{IsFetched, Told}
 use Rattle.ccac_cli.specs.Reports.{Answer, broken, refused, verdict, wide}
+use Rattle.ccac_cli.specs.Texts.{IsSettingText}
 use Rattle.ccac_cli.specs.declared.reports.Source.TheVariants.{Question, Trace}
 use Rattle.ccac_cli.proofs.Says.{Says, refusal_said}
 
@@ -45,7 +45,7 @@ verdict_said folder q t question trace s shape r found before after first second
     by : (found : Admit) → admission s.path r ≡ found → Appends before.text after.text (verdict found).text
         → Says folder (Some (admit q t)) before after (verdict found).status
     by Yes is put = record {
-      zero = λ e. inl (record { examination = seen; admitted = admitted_law s.path r spelled.plain.setting_in.path is; put = put });
+      zero = λ e. inl (record { examination = seen; admitted = admitted_law s.path r spelled.limits.path is; put = put });
       one = λ e. absurd (omega arith);
       two = λ e. absurd (omega arith);
       four = λ e. absurd (omega arith);
@@ -57,7 +57,7 @@ verdict_said folder q t question trace s shape r found before after first second
         rule = rule;
         row = row;
         flow = flow;
-        broken = broken_law s.path r rule row flow spelled.plain.setting_in.path is;
+        broken = broken_law s.path r rule row flow spelled.limits.path is;
         put = put;
       });
       two = λ e. absurd (omega arith);
@@ -66,7 +66,7 @@ verdict_said folder q t question trace s shape r found before after first second
     by (Wide stuck) is put = record {
       zero = λ e. absurd (omega arith);
       one = λ e. absurd (omega arith);
-      two = λ e. inl (record { examination = seen; stuck = stuck; wide = wide_law s.path r stuck spelled.plain.setting_in.path is; put = put });
+      two = λ e. inl (record { examination = seen; stuck = stuck; wide = wide_law s.path r stuck spelled.limits.path is; put = put });
       four = λ e. absurd (omega arith);
     }
 
@@ -83,7 +83,7 @@ pub admit_said : (folder : Told) (q t question trace : List ℕ) (a : Answer) (b
     → IsFetched folder Question q question → IsFetched folder Trace t trace → AdmitAnswers question trace a
     → Appends before.text after.text a.text → Says folder (Some (admit q t)) before after a.status
 unfolding refused
-admit_said folder q t question trace _ before after first second (question_refused none) put =
-    refusal_said folder (Some (admit q t)) before after _ refl
+admit_said folder q t question trace _ before after first second (question_refused r breaks) put =
+    refusal_said folder (Some (admit q t)) before after (refused Question r).status refl
 admit_said folder q t question trace _ before after first second (question_read s a spelled answers) put =
     trace_said folder q t question trace s a before after first second spelled answers put

@@ -12,13 +12,14 @@ use Rattle.trace_replay.specs.declared.replaying.Replayed.{Replayed}
 use Rattle.trace_replay.specs.declared.replaying.Replayed.TheVariants.{Violating, Keeps, Broken, Wide}
 use Rattle.trace_replay.proofs.ReplayLaws.{broken_law, keeps_law, violating_law, wide_law}
 use Rattle.ccac_ports.specs.Ports.{Appends}
-use Rattle.thin_texts.specs.Controllers.{IsControllerText}
+use Rattle.ctrl_syntax.specs.declared.syntax.Syntax.{Syntax}
 use Rattle.ccac_cli.specs.Commands.{replay}
 use Rattle.ccac_cli.specs.Ended.{Got}
 use Rattle.ccac_cli.specs.Fetched.{IsFetched, Told}
 use Rattle.ccac_cli.specs.ReplayEnds.{Replaying}
 use Rattle.ccac_cli.specs.Replays.{AskAnswers, IsAsked, ReplayAnswers, RunAnswers, controller_read, controller_refused, question_read, question_refused, replayed, trace_refused}
 use Rattle.ccac_cli.specs.Reports.{Answer, broken, refused, replay_verdict, wide}
+use Rattle.ccac_cli.specs.Texts.{IsControllerText}
 use Rattle.ccac_cli.specs.declared.reports.Source.TheVariants.{Controller as ControllerFile, Question as QuestionFile, Trace}
 use Rattle.ccac_cli.proofs.Says.{Says, refusal_said}
 
@@ -26,9 +27,6 @@ use Rattle.ccac_cli.proofs.Says.{Says, refusal_said}
 abbrev AreThree : Told → List ℕ → List ℕ → List ℕ → List ℕ → List ℕ → List ℕ → Type 0
 AreThree folder c q t controller question trace =
     IsFetched folder ControllerFile c controller × (IsFetched folder QuestionFile q question × IsFetched folder Trace t trace)
-
-limits_of : (bytes : List ℕ) (c : Controller) → IsControllerText bytes c → IsController c
-limits_of bytes c (p, says) = says.controller.limits
 
 -- what is put of the replay, and what that says
 put_said : (folder : Told) (c q t : List ℕ) (before after : Got) (seen : Replaying folder (Some (replay c q t))) → IsController seen.controller
@@ -38,7 +36,7 @@ unfolding replay_verdict broken wide
 put_said folder c q t before after seen limits setting Violating is put =
     let law = violating_law seen.controller seen.question seen.run limits setting is in
     record {
-      zero = λ e. inr (record { replaying = seen; run_of = law.0; violates = law.1; put = put });
+      zero = λ e. inr (inl (record { replaying = seen; run_of = law.0; violates = law.1; put = put }));
       one = λ e. absurd (omega arith);
       two = λ e. absurd (omega arith);
       four = λ e. absurd (omega arith);
@@ -76,11 +74,11 @@ put_said folder c q t before after seen limits setting (Wide stuck) is put = rec
   four = λ e. absurd (omega arith);
 }
 
-run_said : (folder : Told) (c q t controller question trace : List ℕ) (cv : Controller) (qv : Question) (a : Answer) (before after : Got)
-    → AreThree folder c q t controller question trace → IsControllerText controller cv → IsAsked cv question qv → RunAnswers cv qv trace a
+run_said : (folder : Told) (c q t controller question trace : List ℕ) (syntax : Syntax) (cv : Controller) (qv : Question) (a : Answer) (before after : Got)
+    → AreThree folder c q t controller question trace → IsControllerText controller syntax cv → IsAsked cv question qv → RunAnswers cv qv trace a
     → Appends before.text after.text a.text → Says folder (Some (replay c q t)) before after a.status
 unfolding refused
-run_said folder c q t controller question trace cv qv _ before after (first, (second, third)) spelled asked (replayed shape r text) put =
+run_said folder c q t controller question trace syntax cv qv _ before after (first, (second, third)) spelled asked (replayed shape r text) put =
     put_said folder c q t before after
     (record {
       controller_name = c;
@@ -93,6 +91,7 @@ run_said folder c q t controller question trace cv qv _ before after (first, (se
       question_fetched = second;
       trace_text = trace;
       trace_fetched = third;
+      syntax = syntax;
       controller = cv;
       controller_is = spelled;
       question = qv;
@@ -101,24 +100,24 @@ run_said folder c q t controller question trace cv qv _ before after (first, (se
       run = r;
       trace_is = text;
     })
-    (limits_of controller cv spelled) asked.plain.setting_in (replaying cv qv r) refl put
-run_said folder c q t controller question trace cv qv _ before after fetched spelled asked (trace_refused refusal breaks) put =
+    spelled.limits asked.limits.setting_in (replaying cv qv r) refl put
+run_said folder c q t controller question trace syntax cv qv _ before after fetched spelled asked (trace_refused refusal breaks) put =
     refusal_said folder (Some (replay c q t)) before after (refused Trace refusal).status refl
 
-ask_said : (folder : Told) (c q t controller question trace : List ℕ) (cv : Controller) (a : Answer) (before after : Got)
-    → AreThree folder c q t controller question trace → IsControllerText controller cv → AskAnswers cv question trace a
+ask_said : (folder : Told) (c q t controller question trace : List ℕ) (syntax : Syntax) (cv : Controller) (a : Answer) (before after : Got)
+    → AreThree folder c q t controller question trace → IsControllerText controller syntax cv → AskAnswers cv question trace a
     → Appends before.text after.text a.text → Says folder (Some (replay c q t)) before after a.status
 unfolding refused
-ask_said folder c q t controller question trace cv _ before after fetched spelled (question_refused none) put =
-    refusal_said folder (Some (replay c q t)) before after _ refl
-ask_said folder c q t controller question trace cv _ before after fetched spelled (question_read qv a asked answers) put =
-    run_said folder c q t controller question trace cv qv a before after fetched spelled asked answers put
+ask_said folder c q t controller question trace syntax cv _ before after fetched spelled (question_refused r breaks) put =
+    refusal_said folder (Some (replay c q t)) before after (refused QuestionFile r).status refl
+ask_said folder c q t controller question trace syntax cv _ before after fetched spelled (question_read qv a asked answers) put =
+    run_said folder c q t controller question trace syntax cv qv a before after fetched spelled asked answers put
 
 pub replay_said : (folder : Told) (c q t controller question trace : List ℕ) (a : Answer) (before after : Got)
     → AreThree folder c q t controller question trace → ReplayAnswers controller question trace a
     → Appends before.text after.text a.text → Says folder (Some (replay c q t)) before after a.status
 unfolding refused
-replay_said folder c q t controller question trace _ before after fetched (controller_refused none) put =
-    refusal_said folder (Some (replay c q t)) before after _ refl
-replay_said folder c q t controller question trace _ before after fetched (controller_read cv a spelled answers) put =
-    ask_said folder c q t controller question trace cv a before after fetched spelled answers put
+replay_said folder c q t controller question trace _ before after fetched (controller_refused r breaks) put =
+    refusal_said folder (Some (replay c q t)) before after (refused ControllerFile r).status refl
+replay_said folder c q t controller question trace _ before after fetched (controller_read syntax cv a spelled answers) put =
+    ask_said folder c q t controller question trace syntax cv a before after fetched spelled answers put

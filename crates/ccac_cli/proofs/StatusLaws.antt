@@ -1,11 +1,12 @@
 -- What a status says of the call that ended with it.
 use Rattle.std.proofs.Common.{◌≡◌, ap, subst, refl, ℕ, ◌⊎◌, inl, inr, List, [], ◌∷◌, Option, None, Some, arith}
 use Rattle.ccac_ports.specs.Ports.{Appends}
-use Rattle.ccac_cli.specs.Commands.{Order, admit, files_of, replay}
+use Rattle.ccac_cli.specs.Commands.{Order, admit, files_of, format, format_question, replay}
 use Rattle.ccac_cli.specs.Ended.{Answers, AreFetched, BytesAnswer, Ends, Got, OrderAnswers, answered, cut_short, fetch_ends, no_memory, no_memory_left, whole}
 use Rattle.ccac_cli.specs.Fetched.{Told}
 use Rattle.ccac_cli.specs.Reports.{Answer, usage}
 use Rattle.ccac_cli.proofs.AdmitStatus.{admit_said}
+use Rattle.ccac_cli.proofs.FormatStatus.{format_said, question_said}
 use Rattle.ccac_cli.proofs.ReplayStatus.{replay_said}
 use Rattle.ccac_cli.proofs.Says.{Says, fetch_said, nothing_said}
 
@@ -18,6 +19,15 @@ contents_said folder (admit q t) (one ∷ []) a before after fetched answers put
 contents_said folder (admit q t) (question ∷ trace ∷ []) a before after (first, (second, _)) answers put =
     admit_said folder q t question trace a before after first second answers put
 contents_said folder (admit q t) (one ∷ two ∷ three ∷ more) a before after fetched answers put = absurd answers
+contents_said folder (format c) [] a before after fetched answers put = absurd answers
+contents_said folder (format c) (controller ∷ []) a before after (first, _) answers put =
+    format_said folder c controller a before after first answers put
+contents_said folder (format c) (one ∷ two ∷ more) a before after fetched answers put = absurd answers
+contents_said folder (format_question c q) [] a before after fetched answers put = absurd answers
+contents_said folder (format_question c q) (one ∷ []) a before after fetched answers put = absurd answers
+contents_said folder (format_question c q) (controller ∷ question ∷ []) a before after (first, (second, _)) answers put =
+    question_said folder c q controller question a before after first second answers put
+contents_said folder (format_question c q) (one ∷ two ∷ three ∷ more) a before after fetched answers put = absurd answers
 contents_said folder (replay c q t) [] a before after fetched answers put = absurd answers
 contents_said folder (replay c q t) (one ∷ []) a before after fetched answers put = absurd answers
 contents_said folder (replay c q t) (one ∷ two ∷ []) a before after fetched answers put = absurd answers

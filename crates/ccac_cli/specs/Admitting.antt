@@ -7,9 +7,10 @@ use Rattle.path_server.specs.Places.{admission}
 use Rattle.path_server.specs.declared.settings.Setting.{Setting}
 use Rattle.trace_replay.specs.Refused.{IsRefused}
 use Rattle.trace_replay.specs.Spelling.{IsTraceText}
+use Rattle.question_syntax.specs.Refused as question
 use Rattle.ccac_cli.specs.Reports.{Answer, refused, verdict}
+use Rattle.ccac_cli.specs.Texts.{IsSettingText}
 use Rattle.ccac_cli.specs.declared.reports.Source.TheVariants.{Question, Trace}
-use Rattle.thin_texts.specs.Questions.{IsSettingText, not_plain}
 
 -- the one answer to a trace, on the path of a setting
 pub data TraceAnswers (s : Setting) (trace : List ℕ) : Answer → Type 0 where
@@ -17,6 +18,6 @@ pub data TraceAnswers (s : Setting) (trace : List ℕ) : Answer → Type 0 where
   examined : (shape : Shape) (r : Run) → IsTraceText trace shape r → TraceAnswers s trace (verdict (admission s.path r))
 
 -- the one answer to these bytes: the question is read first
-pub data AdmitAnswers (question trace : List ℕ) : Answer → Type 0 where
-  question_refused : ((s : Setting) → IsSettingText question s → ⊥) → AdmitAnswers question trace (refused Question not_plain)
-  question_read : (s : Setting) (a : Answer) → IsSettingText question s → TraceAnswers s trace a → AdmitAnswers question trace a
+pub data AdmitAnswers (bytes trace : List ℕ) : Answer → Type 0 where
+  question_refused : (r : Refusal) → question.IsRefused bytes r → AdmitAnswers bytes trace (refused Question r)
+  question_read : (s : Setting) (a : Answer) → IsSettingText bytes s → TraceAnswers s trace a → AdmitAnswers bytes trace a

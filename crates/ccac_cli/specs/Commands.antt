@@ -16,17 +16,26 @@ file source name = record { source = source; name = name }
 pub data Order : Type 0 where
   admit : List ℕ → List ℕ → Order  -- the question's name, and the trace's
   replay : List ℕ → List ℕ → List ℕ → Order  -- the controller's name, the question's, and the trace's
+  format : List ℕ → Order  -- the controller's name
+  format_question : List ℕ → List ℕ → Order  -- the controller's name, and the question's
 
 -- the files of an order, in the order in which they are fetched
 abbrev pub files_of : Order → List File
 files_of (admit q t) = file Question q ∷ file Trace t ∷ []
 files_of (replay c q t) = file Controller c ∷ file Question q ∷ file Trace t ∷ []
+files_of (format c) = file Controller c ∷ []
+files_of (format_question c q) = file Controller c ∷ file Question q ∷ []
 
--- the order of a first word with two names
+-- the order of a first word with one name, with two, and with three
+abbrev pub of_one : List ℕ → List ℕ → Option Order
+of_one word one = if bytes_eq word (codes "fmt") then Some (format one) else None
+
 abbrev pub of_two : List ℕ → List ℕ → List ℕ → Option Order
-of_two word one two = if bytes_eq word (codes "admit") then Some (admit one two) else None
+of_two word one two =
+    if bytes_eq word (codes "admit") then Some (admit one two)
+    else if bytes_eq word (codes "fmt") then Some (format_question one two)
+    else None
 
--- the order of a first word with three names
 abbrev pub of_three : List ℕ → List ℕ → List ℕ → List ℕ → Option Order
 of_three word one two three = if bytes_eq word (codes "replay") then Some (replay one two three) else None
 
@@ -34,7 +43,7 @@ of_three word one two three = if bytes_eq word (codes "replay") then Some (repla
 abbrev pub order_of : List (List ℕ) → Option Order
 order_of [] = None
 order_of (word ∷ []) = None
-order_of (word ∷ one ∷ []) = None
+order_of (word ∷ one ∷ []) = of_one word one
 order_of (word ∷ one ∷ two ∷ []) = of_two word one two
 order_of (word ∷ one ∷ two ∷ three ∷ []) = of_three word one two three
 order_of (word ∷ one ∷ two ∷ three ∷ more ∷ words) = None

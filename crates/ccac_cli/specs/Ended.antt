@@ -2,8 +2,9 @@
 use Rattle.std.specs.Prelude.{◌≡◌, ℕ, List, [], ◌∷◌, ◌++◌, take, Option, None, Some}
 use Rattle.ccac_ports.specs.Ports.{Appends, HasRisen}
 use Rattle.ccac_cli.specs.Admitting.{AdmitAnswers}
-use Rattle.ccac_cli.specs.Commands.{File, Order, admit, files_of, replay}
+use Rattle.ccac_cli.specs.Commands.{File, Order, admit, files_of, format, format_question, replay}
 use Rattle.ccac_cli.specs.Fetched.{FetchEnds, IsFetched, Told}
+use Rattle.ccac_cli.specs.Formats.{FormatAnswers, QuestionFormat}
 use Rattle.ccac_cli.specs.Replays.{ReplayAnswers}
 use Rattle.ccac_cli.specs.Reports.{Answer, usage}
 
@@ -14,14 +15,18 @@ AreFetched folder [] (bytes ∷ more) = ⊥
 AreFetched folder (file ∷ files) [] = ⊥
 AreFetched folder (file ∷ files) (bytes ∷ more) = IsFetched folder file.source file.name bytes × AreFetched folder files more
 
--- what is answered to two files
+-- what is answered to one file, to two, and to three
+abbrev pub one_file : (List ℕ → Answer → Type 0) → List (List ℕ) → Answer → Type 0
+one_file Answers [] a = ⊥
+one_file Answers (one ∷ []) a = Answers one a
+one_file Answers (one ∷ two ∷ more) a = ⊥
+
 abbrev pub two_files : (List ℕ → List ℕ → Answer → Type 0) → List (List ℕ) → Answer → Type 0
 two_files Answers [] a = ⊥
 two_files Answers (one ∷ []) a = ⊥
 two_files Answers (one ∷ two ∷ []) a = Answers one two a
 two_files Answers (one ∷ two ∷ three ∷ more) a = ⊥
 
--- what is answered to three files
 abbrev pub three_files : (List ℕ → List ℕ → List ℕ → Answer → Type 0) → List (List ℕ) → Answer → Type 0
 three_files Answers [] a = ⊥
 three_files Answers (one ∷ []) a = ⊥
@@ -33,6 +38,8 @@ three_files Answers (one ∷ two ∷ three ∷ four ∷ more) a = ⊥
 abbrev pub BytesAnswer : Order → List (List ℕ) → Answer → Type 0
 BytesAnswer (admit q t) contents a = two_files AdmitAnswers contents a
 BytesAnswer (replay c q t) contents a = three_files ReplayAnswers contents a
+BytesAnswer (format c) contents a = one_file FormatAnswers contents a
+BytesAnswer (format_question c q) contents a = two_files QuestionFormat contents a
 
 -- the answers to an order, each with its cause: the files are fetched in their order, and then their bytes are examined
 pub data OrderAnswers (old new : Told) (order : Order) (a : Answer) : Type 0 where

@@ -9,11 +9,11 @@ use Rattle.path_server.specs.declared.admission.Admit.TheVariants.{Broken, Wide}
 use Rattle.path_server.specs.declared.settings.Setting.{Setting}
 use Rattle.trace_replay.specs.Spelling.{IsTraceText}
 use Rattle.ccac_ports.specs.Ports.{Appends}
-use Rattle.thin_texts.specs.Questions.{IsSettingText}
 use Rattle.ccac_cli.specs.Commands.{Order, admit}
 use Rattle.ccac_cli.specs.Ended.{Got}
 use Rattle.ccac_cli.specs.Fetched.{IsFetched, Told}
 use Rattle.ccac_cli.specs.Reports.{verdict}
+use Rattle.ccac_cli.specs.Texts.{IsSettingText}
 use Rattle.ccac_cli.specs.declared.reports.Source.TheVariants.{Question, Trace}
 
 -- the order was to admit; what the folder tells of the two names is the text of this question and of this trace

@@ -2,11 +2,14 @@ pub mod Commands
 pub mod Ordered
 pub mod Reports
 pub mod Shown
+pub mod Texts
 pub mod Admitting
 pub mod Replays
+pub mod Formats
 pub mod Fetched
 pub mod Halted
 pub mod Ended
 pub mod Settled
 pub mod Examination
 pub mod ReplayEnds
+pub mod FormatEnds

@@ -10,12 +10,13 @@ use Rattle.trace_replay.specs.RunOf.{IsFirstBroken, IsFirstWide, RunOf}
 use Rattle.trace_replay.specs.Spelling.{IsTraceText}
 use Rattle.trace_replay.specs.declared.replaying.RunRule.{RunRule}
 use Rattle.ccac_ports.specs.Ports.{Appends}
-use Rattle.thin_texts.specs.Controllers.{IsControllerText}
+use Rattle.ctrl_syntax.specs.declared.syntax.Syntax.{Syntax}
 use Rattle.ccac_cli.specs.Commands.{Order, replay}
 use Rattle.ccac_cli.specs.Ended.{Got}
 use Rattle.ccac_cli.specs.Fetched.{IsFetched, Told}
 use Rattle.ccac_cli.specs.Replays.{IsAsked}
 use Rattle.ccac_cli.specs.Reports.{broken, wide}
+use Rattle.ccac_cli.specs.Texts.{IsControllerText}
 use Rattle.ccac_cli.specs.declared.reports.Source.TheVariants.{Controller as ControllerFile, Question as QuestionFile, Trace}
 
 -- the order was to replay; what the folder tells of the three names is the text of this controller, question and trace
@@ -30,8 +31,9 @@ pub record Replaying (folder : Told) (order : Option Order) : Type 0 where
   pub question_fetched : IsFetched folder QuestionFile question_name question_text
   pub trace_text : List ℕ
   pub trace_fetched : IsFetched folder Trace trace_name trace_text
+  pub syntax : Syntax
   pub controller : Controller
-  pub controller_is : IsControllerText controller_text controller
+  pub controller_is : IsControllerText controller_text syntax controller
   pub question : Question
   pub question_is : IsAsked controller question_text question
   pub shape : Shape

@@ -4,8 +4,8 @@ ghost use Rattle.ccac_cli.specs.Admitting.{AdmitAnswers, TraceAnswers};
 ghost use Rattle.ccac_cli.specs.Shown.{shown};
 
 use crate::reports::{Report, Source};
-use crate::thin;
 use path_server::{Setting, admits};
+use question_text::read_setting;
 use std::alloc::Global;
 use trace_replay::read_trace;
 use whole::{NoMemory, ReadFault};
@@ -16,7 +16,7 @@ pub(crate) fn admit(alloc: Global, question: &[u8], trace: &[u8]) -> Result<Repo
     requires trace_in { length trace.now < 2 ^ 32 - 1 }
     ensures { IfOk result (λ report. AdmitAnswers question.now trace.now (shown report)) }
 {
-    match thin::setting(question) {
+    match read_setting(alloc, question) {
         Ok(setting) => admit_trace(alloc, &setting, trace),
         Err(ReadFault::Refused(refusal)) => Ok(Report::refused(alloc, Source::Question, refusal)?),
         Err(ReadFault::NoMemory) => Err(NoMemory),

@@ -17,6 +17,15 @@ pub(crate) enum Command<'a> {
         question: &'a str,
         trace: &'a str,
     },
+    /// The canonical text of a controller.
+    Format {
+        controller: &'a str,
+    },
+    /// The canonical text of a question about a controller.
+    FormatQuestion {
+        controller: &'a str,
+        question: &'a str,
+    },
 }
 
 /// The command that the words are by the table, if they are one.
@@ -32,6 +41,13 @@ pub(crate) fn command_of(words: &[String]) -> Option<Command<'_>>
             controller: controller.as_str(),
             question: question.as_str(),
             trace: trace.as_str(),
+        }),
+        [word, controller] if word.as_str() == "fmt" => Some(Command::Format {
+            controller: controller.as_str(),
+        }),
+        [word, controller, question] if word.as_str() == "fmt" => Some(Command::FormatQuestion {
+            controller: controller.as_str(),
+            question: question.as_str(),
         }),
         _ => None,
     }

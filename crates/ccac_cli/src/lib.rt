@@ -3,12 +3,15 @@
 
 mod admitting;
 mod commands;
+mod controllers;
 mod fetching;
+mod formatting;
+mod laws;
 mod replaying;
 mod reports;
 mod running;
 #[cfg(test)]
 mod tests;
-pub mod thin;
 
+pub use laws::canonical_texts_stay;
 pub use running::run;

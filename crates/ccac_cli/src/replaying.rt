@@ -4,10 +4,10 @@ ghost use Rattle.question_text.specs.Limits.{IsQuestion};
 ghost use Rattle.ccac_cli.specs.Replays.{AskAnswers, ReplayAnswers, RunAnswers};
 ghost use Rattle.ccac_cli.specs.Shown.{shown};
 
+use crate::controllers::read_controller;
 use crate::reports::{Report, Source};
-use crate::thin;
 use ctrl_types::Controller;
-use question_text::Question;
+use question_text::{Question, read};
 use std::alloc::Global;
 use trace_replay::{read_trace, replay as replay_run};
 use whole::{NoMemory, ReadFault};
@@ -24,8 +24,8 @@ pub(crate) fn replay(
     requires trace_in { length trace.now < 2 ^ 32 - 1 }
     ensures { IfOk result (λ report. ReplayAnswers controller.now question.now trace.now (shown report)) }
 {
-    match thin::controller(alloc, controller) {
-        Ok(controller) => replay_question(alloc, &controller, question, trace),
+    match read_controller(alloc, controller) {
+        Ok((_syntax, controller)) => replay_question(alloc, &controller, question, trace),
         Err(ReadFault::Refused(refusal)) => Ok(Report::refused(
             alloc,
             Source::Controller,
@@ -47,7 +47,7 @@ fn replay_question(
     requires trace_in { length trace.now < 2 ^ 32 - 1 }
     ensures { IfOk result (λ report. AskAnswers controller.now question.now trace.now (shown report)) }
 {
-    match thin::question(alloc, question, controller) {
+    match read(alloc, question, controller) {
         Ok(question) => replay_trace(alloc, controller, &question, trace),
         Err(ReadFault::Refused(refusal)) => Ok(Report::refused(alloc, Source::Question, refusal)?),
         Err(ReadFault::NoMemory) => Err(NoMemory),

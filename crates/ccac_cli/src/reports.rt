@@ -17,7 +17,7 @@ pub(crate) enum Source {
 #[derive(Debug, Drop)]
 pub(crate) struct Report {
     pub status: u8,
-    pub text: String,
+    pub text: Vec<u8>,
 }
 
 impl Source {
@@ -48,14 +48,31 @@ impl Source {
 impl Report {
     ghost use Rattle.std.specs.Prelude.{◌≡◌, IfOk, string_bytes};
     ghost use Rattle.ccac_cli.specs.Reports.{broken, read_fault, refused, replay_verdict, too_long, usage, verdict, wide};
+    ghost use Rattle.ccac_cli.specs.Formats.{formatted};
     ghost use Rattle.ccac_cli.specs.Shown.{shown};
+
+    /// The text of a file, which is put whole.
+    pub(crate) fn file(text: Vec<u8>) -> Report
+        ensures { shown result ≡ formatted text.items }
+    {
+        Report { status: 0, text }
+    }
+
+    /// The report with this status and this line.
+    fn line(status: u8, line: String) -> Report
+        ensures { shown result ≡ record { status = status; text = string_bytes line } }
+    {
+        Report {
+            status,
+            text: line.into_bytes(),
+        }
+    }
 
     /// The report with this status and this text.
     fn of(alloc: Global, status: u8, text: &str) -> Result<Report, AllocError>
         ensures { IfOk result (λ report. shown report ≡ record { status = status; text = text.now }) }
     {
-        let text = String::from_str(alloc, text)?;
-        Ok(Report { status, text })
+        Ok(Report::line(status, String::from_str(alloc, text)?))
     }
 
     #[tactic(auto, unfolding(crate::specs::Reports::usage))]
@@ -70,7 +87,7 @@ impl Report {
         ensures { IfOk result (λ report. shown report ≡ read_fault source) }
     {
         let text = format!(in alloc; "read fault {}\n", source.word())?;
-        Ok(Report { status: 5, text })
+        Ok(Report::line(5, text))
     }
 
     #[tactic(auto, unfolding(crate::specs::Reports::too_long))]
@@ -78,7 +95,7 @@ impl Report {
         ensures { IfOk result (λ report. shown report ≡ too_long source) }
     {
         let text = format!(in alloc; "refused {} too long\n", source.word())?;
-        Ok(Report { status: 3, text })
+        Ok(Report::line(3, text))
     }
 
     #[tactic(auto, unfolding(crate::specs::Reports::refused))]
@@ -93,7 +110,7 @@ impl Report {
         let number = refusal.number;
         let line = refusal.line;
         let text = format!(in alloc; "refused {} {letter}{number} line {line}\n", source.word())?;
-        Ok(Report { status: 3, text })
+        Ok(Report::line(3, text))
     }
 
     /// The report on a run that breaks a rule at a row, for a flow or, under flow 0, for all.
@@ -108,7 +125,7 @@ impl Report {
             RunRule::Step => format!(in alloc; "broken step row {row} flow {flow}\n")?,
             RunRule::Send => format!(in alloc; "broken send row {row} flow {flow}\n")?,
         };
-        Ok(Report { status: 1, text })
+        Ok(Report::line(1, text))
     }
 
     /// The report on a run of which a comparison passes 128 bits.
@@ -118,7 +135,7 @@ impl Report {
     {
         let row = stuck.at;
         let text = format!(in alloc; "wide row {row}\n")?;
-        Ok(Report { status: 2, text })
+        Ok(Report::line(2, text))
     }
 
     #[tactic(auto, unfolding(crate::specs::Reports::verdict))]

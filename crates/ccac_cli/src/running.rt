@@ -1,7 +1,8 @@
 ghost use Rattle.std.specs.Prelude.{◌≡◌, ◌⊎◌, ℕ, IfOk, None, map, string_bytes};
-ghost use Rattle.ccac_cli.specs.Commands.{admit, order_of, replay};
+ghost use Rattle.ccac_cli.specs.Commands.{admit, format, format_question, order_of, replay};
 ghost use Rattle.ccac_cli.specs.Ended.{Answers, Ends};
 ghost use Rattle.ccac_cli.specs.Examination.{EndsAdmitted, EndsBroken, EndsWide};
+ghost use Rattle.ccac_cli.specs.FormatEnds.{EndsAsked, EndsFormatted};
 ghost use Rattle.ccac_cli.specs.ReplayEnds.{EndsBreaking, EndsKeeping, EndsPassing, EndsViolating};
 ghost use Rattle.ccac_cli.specs.Settled.{Delivered, Settled};
 ghost use Rattle.ccac_cli.specs.Shown.{shown};
@@ -9,6 +10,7 @@ ghost use Rattle.ccac_cli.specs.Shown.{shown};
 use crate::admitting::admit;
 use crate::commands::{Command, command_of};
 use crate::fetching::{Halt, fetch};
+use crate::formatting::{format, format_question};
 use crate::replaying::replay;
 use crate::reports::{Report, Source};
 use ccac_ports::{Folder, PutFault, Sink};
@@ -20,7 +22,7 @@ use whole::NoMemory;
 ///
 /// `admit QUEST TRACE` reports `admitted` with 0, `broken RULE row I flow F` with 1, and `wide row I` with 2.
 /// `replay CTRL QUEST TRACE` reports `violating` with 0, `keeps` or `broken RULE row I flow F` with 1, and `wide row I`
-/// with 2.
+/// with 2. `fmt CTRL` and `fmt CTRL QUEST` report the canonical text of the last named file with 0.
 /// A refused file is 3, words that are no command 4, a file that can't be read 5, a sink that fails 6,
 /// and want of memory 7.
 pub fn run<F: Folder, S: Sink>(
@@ -44,6 +46,14 @@ pub fn run<F: Folder, S: Sink>(
         (order_of (map string_bytes words.now.items))
         (record { text = S.text out.old; faults = S.faults out.old })
         (record { text = S.text out.new; faults = S.faults out.new })) ⊎ (EndsViolating
+        (record { content = F.content folder.old; faults = F.faults folder.old; excesses = F.excesses folder.old })
+        (order_of (map string_bytes words.now.items))
+        (record { text = S.text out.old; faults = S.faults out.old })
+        (record { text = S.text out.new; faults = S.faults out.new })) ⊎ (EndsFormatted
+        (record { content = F.content folder.old; faults = F.faults folder.old; excesses = F.excesses folder.old })
+        (order_of (map string_bytes words.now.items))
+        (record { text = S.text out.old; faults = S.faults out.old })
+        (record { text = S.text out.new; faults = S.faults out.new })) ⊎ (EndsAsked
         (record { content = F.content folder.old; faults = F.faults folder.old; excesses = F.excesses folder.old })
         (order_of (map string_bytes words.now.items))
         (record { text = S.text out.old; faults = S.faults out.old })
@@ -96,6 +106,13 @@ fn report_on<F: Folder>(alloc: Global, words: &[String], folder: &mut F) -> Resu
                 trace,
             },
         ) => replay_files(alloc, folder, controller, question, trace),
+        Some(Command::Format { controller }) => format_file(alloc, folder, controller),
+        Some(
+            Command::FormatQuestion {
+                controller,
+                question,
+            },
+        ) => { format_files(alloc, folder, controller, question) }
     };
     match answer {
         Ok(report) | Err(Halt::Report(report)) => Ok(report),
@@ -150,13 +167,47 @@ fn replay_files<F: Folder>(
     }
 }
 
+/// Fetches the controller, and answers to it.
+fn format_file<F: Folder>(alloc: Global, folder: &mut F, controller: &str) -> Result<Report, Halt>
+    ensures { Settled
+        (record { content = F.content folder.old; faults = F.faults folder.old; excesses = F.excesses folder.old })
+        (record { content = F.content folder.new; faults = F.faults folder.new; excesses = F.excesses folder.new })
+        (format controller.now) result }
+{
+    let named = fetch(alloc, folder, Source::Controller, controller)?;
+    match format(alloc, named.as_slice()) {
+        Ok(report) => Ok(report),
+        Err(NoMemory) => Err(Halt::NoMemory),
+    }
+}
+
+/// Fetches both files, the controller's first, and answers to them.
+fn format_files<F: Folder>(
+    alloc: Global,
+    folder: &mut F,
+    controller: &str,
+    question: &str,
+) -> Result<Report, Halt>
+    ensures { Settled
+        (record { content = F.content folder.old; faults = F.faults folder.old; excesses = F.excesses folder.old })
+        (record { content = F.content folder.new; faults = F.faults folder.new; excesses = F.excesses folder.new })
+        (format_question controller.now question.now) result }
+{
+    let asked = fetch(alloc, folder, Source::Controller, controller)?;
+    let asking = fetch(alloc, folder, Source::Question, question)?;
+    match format_question(alloc, asked.as_slice(), asking.as_slice()) {
+        Ok(report) => Ok(report),
+        Err(NoMemory) => Err(Halt::NoMemory),
+    }
+}
+
 /// Puts the report, and gives the status with which the call ends.
 fn deliver<S: Sink>(report: &Report, out: &mut S) -> u8
     ensures { Delivered (shown report.now)
         (record { text = S.text out.old; faults = S.faults out.old })
         (record { text = S.text out.new; faults = S.faults out.new }) result }
 {
-    match out.put(report.text.as_bytes()) {
+    match out.put(report.text.as_slice()) {
         Ok(()) => report.status,
         Err(PutFault::Failed) => 6,
         Err(PutFault::NoMemory) => 7,

@@ -76,14 +76,14 @@ const CASES: [(&str, &str, u8, &str); 17] = [
     (BUFFERED, OVERFULL, 1, "broken P7 row 0 flow 0\n"),
     (TWO_FLOWS_ASKED, TWO_FLOWS, 2, "wide row 1\n"),
     (NEVER, HALVES, 0, "admitted\n"),
-    (ASSUMING, HALVES, 3, "refused question Q99 line 1\n"),
-    ("", HALVES, 3, "refused question Q99 line 1\n"),
-    ("\u{1}\u{ff}", HALVES, 3, "refused question Q99 line 1\n"),
+    (ASSUMING, HALVES, 0, "admitted\n"),
+    ("", HALVES, 3, "refused question Q1 line 1\n"),
+    ("\u{1}\u{ff}", HALVES, 3, "refused question Q1 line 1\n"),
     (SLOW, "", 3, "refused trace V1 line 1\n"),
     (SLOW, OTHER_FLOW, 3, "refused trace V4 line 6\n"),
     (SLOW, TOO_LARGE, 3, "refused trace V5 line 4\n"),
     (SLOW, CUT, 3, "refused trace V6 line 4\n"),
-    ("", "", 3, "refused question Q99 line 1\n"),
+    ("", "", 3, "refused question Q1 line 1\n"),
 ];
 
 #[test]
@@ -164,7 +164,7 @@ fn each_file_that_is_too_long_is_named(rt: HostRuntime) -> Result<(), Fail> {
     assert_eq!(rt; folder.add("q", long_question.as_slice()), Ok(()));
     assert_ends!(rt; words, folder, 3, "refused question too long\n");
     assert_eq!(rt; folder.add("q", longest_question.as_slice()), Ok(()));
-    assert_ends!(rt; words, folder, 3, "refused question Q99 line 1\n");
+    assert_ends!(rt; words, folder, 3, "refused question Q1 line 1\n");
     Ok(())
 }
 
@@ -227,8 +227,58 @@ const TWO_FLOWS_ASKED: &str =
 
 const CAUGHT_UP: &str = window_trace!("2 0 0" "2 0 0" "3 1 0 2" "3 3 0 2");
 
+/// Half the window at a loss, and a tenth more at each step in which something was served.
+const HALVING: &str =
+    "ccac-controller 1\nstate cwnd data init 1 4\nrule when lost > 0\nset cwnd = 1/2 * cwnd\nrule when acked > 0\nset cwnd = cwnd + 1/10\nrule otherwise\nwindow cwnd\nend\n";
+
+const PROGRESS: &str =
+    "ccac-question 1\nflows 1\nsteps 10\nrate 1\njitter 1\nrtt 1\nbuffer 2\nbudget 2000\nrequire S@10 - S@0 >= 1/100\nend\n";
+
+const ANY_RUN: &str =
+    "ccac-question 1\nflows 1\nsteps 10\nrate 1\njitter 1\nrtt 1\nbuffer 2\nbudget 2000\nrequire false\nend\n";
+
+const GROWING: &str =
+    "ccac-trace 1\nshape 1 1 2 10\nover 10\ncredit 0\nrow 0 0\nflow 1 0 0 0\nrow 1 0\nflow 1 10 10 0\nrow 2 0\nflow 1 20 20 0 10\nrow 3 0\nflow 1 31 30 0 11\nrow 4 0\nflow 1 42 40 0 12\nrow 5 0\nflow 1 53 50 0 13\nrow 6 0\nflow 1 64 60 0 14\nrow 7 0\nflow 1 75 70 0 15\nrow 8 0\nflow 1 86 80 0 16\nrow 9 0\nflow 1 97 90 0 17\nrow 10 0\nflow 1 108 100 0 18\nrow 11 0\nflow 1 119 110 0 19\nrow 12 0\nflow 1 130 120 0 20\nend\n";
+
+/// The fixed window with other line ends and spaces, and a comment.
+const SPACED: &str =
+    "ccac-controller\t1\r\n# a window of two\r\nstate  cwnd data init 02/1 2\r\nrule otherwise\r\nwindow  1 * cwnd\r\nend\r\n";
+
+const DIVIDED_BY_NOTHING: &str =
+    "ccac-controller 1\nstate cwnd data init 1/0 2\nrule otherwise\nwindow cwnd\nend\n";
+
+const OF_TWO_KINDS: &str =
+    "ccac-controller 1\nstate cwnd data init 2 2\nstate n count init 0 1\nrule otherwise\nset cwnd = cwnd + n\nwindow cwnd\nend\n";
+
+const UNFINISHED: &str =
+    "ccac-controller 1\nstate cwnd data init 2 2\nrule otherwise\nwindow cwnd\n";
+
 /// A controller, a question, a trace, and the status and report to which `replay` comes.
-const REPLAYS: [(&str, &str, &str, u8, &str); 14] = [
+const REPLAYS: [(&str, &str, &str, u8, &str); 20] = [
+    (HALVING, PROGRESS, GROWING, 1, "keeps\n"),
+    (HALVING, ANY_RUN, GROWING, 0, "violating\n"),
+    (SPACED, SMOOTH, CAUGHT_UP, 0, "violating\n"),
+    (
+        DIVIDED_BY_NOTHING,
+        SMOOTH,
+        CAUGHT_UP,
+        3,
+        "refused controller G7 line 2\n",
+    ),
+    (
+        OF_TWO_KINDS,
+        SMOOTH,
+        CAUGHT_UP,
+        3,
+        "refused controller Y3 line 5\n",
+    ),
+    (
+        UNFINISHED,
+        SMOOTH,
+        CAUGHT_UP,
+        3,
+        "refused controller G14 line 5\n",
+    ),
     (FIXED_WINDOW, SMOOTH, CAUGHT_UP, 0, "violating\n"),
     (FIXED_WINDOW, SMOOTHER, CAUGHT_UP, 1, "keeps\n"),
     (
@@ -280,13 +330,13 @@ const REPLAYS: [(&str, &str, &str, u8, &str); 14] = [
         2,
         "wide row 2\n",
     ),
-    ("", SMOOTH, CAUGHT_UP, 3, "refused controller G99 line 1\n"),
+    ("", SMOOTH, CAUGHT_UP, 3, "refused controller G1 line 1\n"),
     (
         FIXED_WINDOW,
         "",
         CAUGHT_UP,
         3,
-        "refused question Q99 line 1\n",
+        "refused question Q1 line 1\n",
     ),
     (
         FIXED_WINDOW,
@@ -302,7 +352,7 @@ const REPLAYS: [(&str, &str, &str, u8, &str); 14] = [
         3,
         "refused trace V4 line 12\n",
     ),
-    ("", "", "", 3, "refused controller G99 line 1\n"),
+    ("", "", "", 3, "refused controller G1 line 1\n"),
 ];
 
 #[test]
@@ -331,5 +381,71 @@ fn files_of_a_replay_are_fetched_in_order(rt: HostRuntime) -> Result<(), Fail> {
     let long_controller = vec![in rt.alloc(); b'a'; 65_537]?;
     assert_eq!(rt; folder.add("c", long_controller.as_slice()), Ok(()));
     assert_ends!(rt; words, folder, 3, "refused controller too long\n");
+    Ok(())
+}
+
+/// A question whose requirement is this, on a path that is never late.
+macro_rules! exact_question {
+    ($requirement:literal) => {
+        question!("rate 1" "jitter 0" "rtt 1" "buffer none" "budget 100000" $requirement)
+    };
+}
+
+const LATE_STEP: &str = exact_question!("require S@2 >= 0");
+
+const NO_TERM: &str = exact_question!("require S@1 >=");
+
+const UNFINISHED_QUESTION: &str =
+    "ccac-question 1\nflows 1\nsteps 1\nrate 1\njitter 0\nrtt 1\nbuffer none\nbudget 100000\nrequire x@0 >= 0\n";
+
+const LONG: &str =
+    "ccac-question 1\nflows 1\nsteps 33\nrate 1\njitter 0\nrtt 1\nbuffer none\nbudget 100000\nrequire true\nend\n";
+
+#[test]
+fn a_question_is_refused_by_its_first_broken_rule(rt: HostRuntime) -> Result<(), Fail> {
+    let words = ["replay", "c", "q", "t"];
+    let mut folder = folder_of_halves(rt.alloc())?;
+    assert_eq!(rt; folder.add("c", FIXED_WINDOW.as_bytes()), Ok(()));
+    assert_eq!(rt; folder.add("t", CAUGHT_UP.as_bytes()), Ok(()));
+    assert_eq!(rt; folder.add("q", LONG.as_bytes()), Ok(()));
+    assert_ends!(rt; words, folder, 3, "refused question Q6 line 3\n");
+    assert_eq!(rt; folder.add("q", LATE_STEP.as_bytes()), Ok(()));
+    assert_ends!(rt; words, folder, 3, "refused question Q12 line 9\n");
+    assert_eq!(rt; folder.add("q", UNFINISHED_QUESTION.as_bytes()), Ok(()));
+    assert_ends!(rt; words, folder, 3, "refused question Q11 line 10\n");
+    assert_eq!(rt; folder.add("q", NO_TERM.as_bytes()), Ok(()));
+    assert_ends!(rt; words, folder, 3, "refused question Q7 line 9\n");
+    Ok(())
+}
+
+/// A question that isn't canonical, and its canonical text.
+const UNTIDY: &str = exact_question!("require not ( S@1>=1 or false )");
+
+const TIDY: &str = exact_question!("require not (S@1 >= 1 or false)");
+
+/// A controller, and the status and report to which `fmt` comes.
+const CONTROLLERS: [(&str, u8, &str); 4] = [
+    (SPACED, 0, FIXED_WINDOW),
+    (FIRST_RULE, 0, FIRST_RULE),
+    (HALVING, 0, HALVING),
+    ("", 3, "refused controller G1 line 1\n"),
+];
+
+#[test]
+fn fmt_puts_the_canonical_text(rt: HostRuntime) -> Result<(), Fail> {
+    let words = words_of(rt.alloc(), &["fmt", "c"])?;
+    for (controller, status, report) in CONTROLLERS {
+        let mut folder = MemFolder::new(rt.alloc());
+        let mut sink = MemSink::new(rt.alloc());
+        assert_eq!(rt; folder.add("c", controller.as_bytes()), Ok(()));
+        assert_eq!(rt; run(rt.alloc(), &words, &mut folder, &mut sink), status);
+        assert_eq!(rt; sink.text(), report.as_bytes());
+    }
+    let mut folder = folder_of_halves(rt.alloc())?;
+    assert_eq!(rt; folder.add("c", FIXED_WINDOW.as_bytes()), Ok(()));
+    assert_eq!(rt; folder.add("q", UNTIDY.as_bytes()), Ok(()));
+    let (status, report) = ended(rt.alloc(), &["fmt", "c", "q"], &mut folder)?;
+    assert_eq!(rt; status, 0);
+    assert_eq!(rt; report.as_slice(), TIDY.as_bytes());
     Ok(())
 }

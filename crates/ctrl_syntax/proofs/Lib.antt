@@ -1,0 +1,14 @@
+pub mod PartsTaken
+pub mod LinesTaken
+pub mod SectionsTaken
+pub mod LinesAgain
+pub mod SectionsAgain
+pub mod Places
+pub mod ManyLoop
+pub mod PartRefusals
+pub mod Walks
+pub mod Exactness
+pub mod LineTexts
+pub mod SectionTexts
+pub mod ConditionLimits
+pub mod LimitLaws

@@ -1,0 +1,9 @@
+pub mod Rest
+pub mod Sections
+pub mod Grammar
+pub mod Taken
+pub mod Reading
+pub mod Seen
+pub mod Refused
+pub mod Limits
+pub mod Printed

@@ -3,10 +3,23 @@
 //! States are numbered from 0 in the order in which the text has them, and so are rules.
 #![tactic(auto)]
 
+mod breaches;
 mod controllers;
+#[cfg(test)]
+mod drafts;
 mod expressions;
 mod gates;
+mod guards;
+mod names;
+mod resolving;
+mod statements;
+mod sums;
+mod surveys;
+#[cfg(test)]
+mod tests;
 
 pub use controllers::{Controller, Kind, Rule, State};
 pub use expressions::{Lin, LinTerm, Source};
 pub use gates::Gate;
+pub use resolving::resolve;
+pub use sums::with_number;

@@ -3,3 +3,17 @@ pub mod Laws
 pub mod Readiness
 pub mod Scales
 pub mod Sums
+mod FoundLoop
+mod TreeLaws
+mod KindLaws
+mod DenominatorLaws
+mod LineLoop
+mod MeaningLaws
+mod LineAgreement
+mod NameLaws
+mod QuestionLimits
+mod TextLaws
+mod WritingLaws
+mod Respelling
+mod CanonLaws
+mod PrintLaws

@@ -5,3 +5,7 @@ pub mod Limits
 pub mod Violation
 pub mod Meaning
 pub mod Example
+pub mod Naming
+pub mod Resolving
+pub mod Resolution
+pub mod Texts

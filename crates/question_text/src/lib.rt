@@ -1,18 +1,30 @@
 //! Questions about the runs of a controller on a path: what is assumed of a run, what is required, and whether a run
-//! violates it.
+//! violates it; the text of a question for a controller.
 //!
 //! Steps are counted from the opening row, flows from 1, states from 0.
 #![tactic(auto)]
 
 mod conditions;
+mod denominators;
 mod expressions;
+mod kinds;
+mod lines;
 mod names;
+mod naming;
 mod questions;
+mod refusals;
 #[cfg(test)]
 mod tests;
+#[cfg(test)]
+mod text_tests;
+mod texts;
+mod trees;
 mod truth;
 mod violation;
+mod writing;
 
 pub use conditions::{Of, QCond, QLin, QTerm};
+pub use question_syntax::read_setting;
 pub use questions::Question;
+pub use texts::{print, read};
 pub use violation::violates;

@@ -19,7 +19,7 @@ ok_is x y e = cc
 abbrev pub with_front : {X R E : Type 0} → List X → Result (List X × R) E → Result (List X × R) E
 with_front front read = read >>= λ x. Ok (front ++ x.0, x.1)
 
-regroup : {X R E : Type 0} (front : List X) (x : X) (read : Result (List X × R) E) → with_front front (read >>= λ xs. Ok (x ∷ xs.0, xs.1)) ≡ with_front (front ++ x ∷ []) read
+pub regroup : {X R E : Type 0} (front : List X) (x : X) (read : Result (List X × R) E) → with_front front (read >>= λ xs. Ok (x ∷ xs.0, xs.1)) ≡ with_front (front ++ x ∷ []) read
 regroup front x (Ok xs) = ap (λ (ys : List _). Ok (ys, xs.1)) (sym (append_assoc front (x ∷ []) xs.0))
 regroup front x (Err fault) = refl
 

@@ -11,7 +11,7 @@ fn place_of(bytes: &[u8], byte: u8) -> Option<usize>
 
 /// The bytes before the first `separator`, and those after it, if it stands there.
 #[tactic(auto, using(crate::proofs::PieceLaws::cut_laws))]
-pub(crate) fn cut(bytes: &[u8], separator: u8) -> (&[u8], Option<&[u8]>)
+pub fn cut(bytes: &[u8], separator: u8) -> (&[u8], Option<&[u8]>)
     ensures parts { pieces separator bytes.now ≡ result.0.now ∷ pieces_left separator (option_map (λ rest. rest.now) result.1) }
     ensures shorter { IfSome result.1 (λ rest. length rest.now + 1 ≤ length bytes.now) }
 {

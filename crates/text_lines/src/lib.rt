@@ -5,7 +5,7 @@
 //! items stand on which line.
 #![tactic(auto)]
 
-mod cut;
+pub mod cut;
 mod items;
 mod lines;
 mod numbers;

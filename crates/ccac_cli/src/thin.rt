@@ -1,2 +1,0 @@
-//! The readers of plain texts.
-pub use thin_texts::{controller, question, setting};

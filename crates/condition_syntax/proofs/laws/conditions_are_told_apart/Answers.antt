@@ -1,0 +1,11 @@
+use Rattle.condition_syntax.proofs.Exactness.{one_condition, one_condition_fault, no_condition}
+use Rattle.condition_syntax.proofs.laws.conditions_are_told_apart.Goals as goal
+
+pub returns-clause-one_condition : goal.returns-clause-one_condition
+returns-clause-one_condition c = one_condition
+
+pub returns-clause-one_fault : goal.returns-clause-one_fault
+returns-clause-one_fault c = one_condition_fault
+
+pub returns-clause-not_both : goal.returns-clause-not_both
+returns-clause-not_both c = no_condition

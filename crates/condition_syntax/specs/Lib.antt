@@ -1,0 +1,12 @@
+pub mod Fronts
+pub mod Halts
+pub mod Refusals
+pub mod Expressions
+pub mod Trees
+pub mod Conditions
+pub mod Grammar
+pub mod Ends
+pub mod Printing
+pub mod Printed
+pub mod Refused
+pub mod Limits

@@ -1,0 +1,67 @@
+-- The clauses of resolving, from what is read and what is asked.
+use Rattle.std.proofs.Common.{◌≡◌, Result, Ok, Err, refl, subst}
+use Rattle.std.specs.Prelude.{IfOk, OnOk, IsErrOf, IsOkUnless}
+use Rattle.weighing.specs.First.{first}
+use Rattle.whole.specs.declared.answers.ReadFault.{ReadFault}
+use Rattle.whole.specs.declared.answers.ReadFault.TheVariants.{Refused, NoMemory}
+use Rattle.whole.specs.declared.answers.Refusal.{Refusal}
+use Rattle.ctrl_syntax.specs.Limits.{IsSyntax}
+use Rattle.ctrl_syntax.specs.declared.syntax.Syntax.{Syntax}
+use Rattle.ctrl_types.specs.declared.controllers.Controller.{Controller}
+use Rattle.ctrl_types.specs.Limits.{IsController}
+use Rattle.ctrl_types.specs.Resolved.{RefusesUnless, Resolves}
+use Rattle.ctrl_types.specs.Resolving.{GivesSeenUnless, SeenController, controller_by, controller_seen}
+use Rattle.ctrl_types.specs.Statements.{IsFirstBroken, IsUnbroken, statements}
+use Rattle.ctrl_types.proofs.Agreement.{Agrees, fine, stops, judged}
+use Rattle.ctrl_types.proofs.ControllerLaws.{controller_is}
+use Rattle.ctrl_types.proofs.FirstLaws.{broken_again, first_broken, unbroken, unbroken_again}
+use Rattle.ctrl_types.proofs.TextLaws.{IsRead, text_agrees}
+
+-- where a value is read, nothing is refused
+record IsFine {X E : Type 0} (P : X → Type 0) (x : X) (t : Result (Unit {0}) E) : Type 0 where
+  holds : P x
+  passed : t ≡ Ok tt
+
+agrees_ok : {X E : Type 0} {P : X → Type 0} {r : Result X E} {t : Result (Unit {0}) E} (x : X) → Agrees P r t → r ≡ Ok x → IsFine P x t
+agrees_ok {P} x (fine y is) e = let same : y ≡ x = cc in record { holds = subst P same is; passed = refl }
+agrees_ok x (stops fault) e = absurd (cc)
+
+agrees_err : {X E : Type 0} {P : X → Type 0} {r : Result X E} {t : Result (Unit {0}) E} (fault : E) → Agrees P r t → r ≡ Err fault → t ≡ Err fault
+agrees_err fault (fine y is) e = absurd (cc)
+agrees_err fault (stops same) e = cc
+
+module _ (syntax : Syntax) (is : IsSyntax syntax) where
+  fine_is : (c : SeenController) → controller_by syntax ≡ Ok c → IsFine (IsRead syntax) c (first (judged syntax.states) (statements syntax))
+  fine_is c e = agrees_ok c (text_agrees syntax is) e
+
+  refused_is : (r : Refusal) → controller_by syntax ≡ Err r → first (judged syntax.states) (statements syntax) ≡ Err r
+  refused_is r e = agrees_err r (text_agrees syntax is) e
+
+  pub found_is : (result : Result Controller ReadFault) → GivesSeenUnless controller_seen result (controller_by syntax) → IfOk result (λ c. Resolves syntax c)
+  found_is (Ok c) gives = (fine_is (controller_seen c) gives).holds.resolves
+  found_is (Err fault) gives = tt
+
+  pub limits_are : (result : Result Controller ReadFault) → GivesSeenUnless controller_seen result (controller_by syntax) → IfOk result IsController
+  limits_are (Ok c) gives = controller_is syntax is c (fine_is (controller_seen c) gives).holds
+  limits_are (Err fault) gives = tt
+
+  pub unbroken_is : (result : Result Controller ReadFault) → GivesSeenUnless controller_seen result (controller_by syntax) → OnOk result (IsUnbroken syntax)
+  unbroken_is (Ok c) gives = unbroken syntax (fine_is (controller_seen c) gives).passed
+  unbroken_is (Err fault) gives = tt
+
+  pub first_is : (result : Result Controller ReadFault) → GivesSeenUnless controller_seen result (controller_by syntax)
+      → (r : Refusal) → IsErrOf result (Refused r) → IsFirstBroken syntax r
+  first_is (Ok c) gives r e = absurd (cc)
+  first_is (Err NoMemory) gives r e = absurd (cc)
+  first_is (Err (Refused s)) gives r e = let same : s ≡ r = cc in subst (IsFirstBroken syntax) same (first_broken syntax s (refused_is s gives))
+
+  pub only_is : (result : Result Controller ReadFault) → GivesSeenUnless controller_seen result (controller_by syntax) → IsUnbroken syntax → IsOkUnless result NoMemory
+  only_is (Ok c) gives whole = tt
+  only_is (Err NoMemory) gives whole = refl
+  only_is (Err (Refused s)) gives whole = let one = refused_is s gives in let two = unbroken_again syntax whole in absurd (cc)
+
+  pub refuses_is : (result : Result Controller ReadFault) → GivesSeenUnless controller_seen result (controller_by syntax)
+      → (r : Refusal) → IsFirstBroken syntax r → RefusesUnless r result
+  refuses_is (Ok c) gives r broken = let one = (fine_is (controller_seen c) gives).passed in let two = broken_again syntax r broken in absurd (cc)
+  refuses_is (Err NoMemory) gives r broken = tt
+  refuses_is (Err (Refused s)) gives r broken = let one = refused_is s gives in let two = broken_again syntax r broken in cc

@@ -1,0 +1,10 @@
+use Rattle.std.proofs.Common.{◌≡◌, drop}
+use Rattle.std.specs.List.{list_any}
+use Rattle.ctrl_types.specs.declared.expressions.LinTerm.{LinTerm}
+use Rattle.ctrl_types.specs.Names.{is_kind, kind_of}
+use Rattle.ctrl_types.proofs.sums.lin_has.Given as goal
+
+abbrev pub invariant-loop-term : goal.invariant-loop-term
+invariant-loop-term l =
+    list_any (λ (t : LinTerm). is_kind l.kind (kind_of l.states t.of)) (drop l.term-index l.term-items)
+    ≡ list_any (λ (t : LinTerm). is_kind l.kind (kind_of l.states t.of)) l.term-items

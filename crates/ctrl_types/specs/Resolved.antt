@@ -1,0 +1,104 @@
+-- The controller that a syntax means.
+use Rattle.std.specs.Prelude.{◌≡◌, ℕ, pos, max, List, [], ◌∷◌, map, true, false, Option, None, Some, Result, Ok, Err}
+use Rattle.std.specs.List.{find, flat_map}
+use Rattle.std.specs.Option.{option_and_then}
+use Rattle.whole.specs.declared.answers.ReadFault.{ReadFault}
+use Rattle.whole.specs.declared.answers.ReadFault.TheVariants.{Refused, NoMemory}
+use Rattle.whole.specs.declared.answers.Refusal.{Refusal}
+use Rattle.weighing.specs.declared.scales.Num.{Num}
+use Rattle.weighing.specs.declared.weighings.Rel5.{Rel5}
+use Rattle.condition_syntax.specs.Trees as conditions
+use Rattle.condition_syntax.specs.Trees.{Condition, condition_of}
+use Rattle.condition_syntax.specs.declared.conditions.Cond.{Cond}
+use Rattle.condition_syntax.specs.declared.expressions.Expr.{Expr}
+use Rattle.ctrl_syntax.specs.declared.syntax.StateLine.{StateLine}
+use Rattle.ctrl_syntax.specs.declared.syntax.SetLine.{SetLine}
+use Rattle.ctrl_syntax.specs.declared.syntax.RuleLine.{RuleLine}
+use Rattle.ctrl_syntax.specs.declared.syntax.RateLine.{RateLine}
+use Rattle.ctrl_syntax.specs.declared.syntax.Syntax.{Syntax}
+use Rattle.ctrl_types.specs.declared.controllers.Controller.{Controller}
+use Rattle.ctrl_types.specs.declared.expressions.Lin.{Lin}
+use Rattle.ctrl_types.specs.Tests as tests
+use Rattle.ctrl_types.specs.Tests.{Test}
+use Rattle.ctrl_types.specs.Names.{lin_of}
+use Rattle.ctrl_types.specs.Denominators.{least_common}
+use Rattle.ctrl_types.specs.Statements.{rows_of, sets_name, numbers, sayings}
+use Rattle.ctrl_types.specs.Resolving.{SeenRule, SeenController, controller_seen, state_of}
+
+-- a condition with its names replaced, where the signals are known
+pub data Means (states : List StateLine) : Condition → Test → Type 0 where
+  always : Means states conditions.always tests.always
+  never : Means states conditions.never tests.never
+  comparison : {left right : Expr} {x y : Lin} (rel : Rel5) → lin_of states true left ≡ Some x → lin_of states true right ≡ Some y
+      → Means states (conditions.comparison left rel right) (tests.comparison x rel y)
+  delay : (q : Num) → Means states (conditions.delay q) (tests.delay (rows_of q))
+  opposite : {c : Condition} {t : Test} → Means states c t → Means states (conditions.opposite c) (tests.opposite t)
+  end_of_all : Means states conditions.end_of_all tests.end_of_all
+  all_of : {c rest : Condition} {t u : Test} → Means states c t → Means states rest u → Means states (conditions.all_of c rest) (tests.all_of t u)
+  end_of_any : Means states conditions.end_of_any tests.end_of_any
+  any_of : {c rest : Condition} {t u : Test} → Means states c t → Means states rest u → Means states (conditions.any_of c rest) (tests.any_of t u)
+
+-- `otherwise` always holds
+abbrev pub GuardMeans : List StateLine → Option Cond → Test → Type 0
+GuardMeans states None t = t ≡ tests.always
+GuardMeans states (Some c) t = Means states (condition_of c) t
+
+-- the expression of the line that sets a state, if one does
+abbrev pub place_of : List StateLine → List SetLine → StateLine → Option Lin
+place_of states sets s = option_and_then (λ (l : SetLine). lin_of states true l.expr) (find (sets_name s.name) sets)
+
+pub record RuleMeans (states : List StateLine) (line : RuleLine) (rule : SeenRule) : Type 0 where
+  pub guard : GuardMeans states line.guard rule.guard
+  pub sets : rule.sets ≡ map (place_of states line.sets) states
+
+-- two lists are as long, and the relation holds of the first two, the second two and so on
+abbrev pub EachPair : {X Y : Type 0} → (X → Y → Type 0) → List X → List Y → Type 0
+EachPair R [] [] = Unit {0}
+EachPair R [] (y ∷ ys) = ⊥
+EachPair R (x ∷ xs) [] = ⊥
+EachPair R (x ∷ xs) (y ∷ ys) = R x y × EachPair R xs ys
+
+abbrev pub RateMeans : List StateLine → Option RateLine → Option Lin → Type 0
+RateMeans states None None = Unit {0}
+RateMeans states None (Some lin) = ⊥
+RateMeans states (Some r) None = ⊥
+RateMeans states (Some r) (Some lin) = lin_of states false r.expr ≡ Some lin
+
+-- the greatest number of rows in a condition's tests of delay, or this one
+abbrev pub greatest_delay : ℕ → Condition → ℕ
+greatest_delay k conditions.always = k
+greatest_delay k conditions.never = k
+greatest_delay k (conditions.comparison left rel right) = k
+greatest_delay k (conditions.delay q) = max k (rows_of q)
+greatest_delay k (conditions.opposite c) = greatest_delay k c
+greatest_delay k conditions.end_of_all = k
+greatest_delay k (conditions.all_of c rest) = greatest_delay (greatest_delay k c) rest
+greatest_delay k conditions.end_of_any = k
+greatest_delay k (conditions.any_of c rest) = greatest_delay (greatest_delay k c) rest
+
+abbrev pub guard_delay : ℕ → Option Cond → ℕ
+guard_delay k None = k
+guard_delay k (Some c) = greatest_delay k (condition_of c)
+
+abbrev pub rules_delay : ℕ → List RuleLine → ℕ
+rules_delay k [] = k
+rules_delay k (r ∷ rules) = rules_delay (guard_delay k r.guard) rules
+
+-- the controller of a syntax, with its guards seen as trees
+pub record SeenResolves (syntax : Syntax) (c : SeenController) : Type 0 where
+  pub states : c.states ≡ map state_of syntax.states
+  pub rules : EachPair (RuleMeans syntax.states) syntax.rules c.rules
+  pub window : lin_of syntax.states false syntax.window ≡ Some c.window
+  pub rate : RateMeans syntax.states syntax.rate c.rate
+  pub delay_max : c.delay_max ≡ rules_delay 0 syntax.rules
+  pub den : c.den ≡ pos (least_common (flat_map numbers (sayings syntax)))
+
+-- the controller that the syntax means
+abbrev pub Resolves : Syntax → Controller → Type 0
+Resolves syntax c = SeenResolves syntax (controller_seen c)
+
+-- a call is refused so, unless memory runs out
+abbrev pub RefusesUnless : {X : Type 0} → Refusal → Result X ReadFault → Type 0
+RefusesUnless r (Ok x) = ⊥
+RefusesUnless r (Err (Refused s)) = s ≡ r
+RefusesUnless r (Err NoMemory) = Unit {0}

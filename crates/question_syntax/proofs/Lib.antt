@@ -1,0 +1,11 @@
+pub mod ValuesTaken
+pub mod LinesTaken
+pub mod LinesAgain
+pub mod ValueRefusals
+pub mod Walks
+pub mod FirstRefusals
+pub mod Exactness
+pub mod SettingLimits
+pub mod ConditionLimits
+pub mod LineTexts
+pub mod Texts

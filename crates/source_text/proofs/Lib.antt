@@ -1,0 +1,10 @@
+pub mod ByteLaws
+pub mod NumberLaws
+pub mod TokenLaws
+pub mod SpellLaws
+pub mod LongestLaws
+pub mod CutLaws
+pub mod PrintLaws
+pub mod LineLaws
+pub mod HeaderLaws
+pub mod CleanLaws

@@ -1,0 +1,11 @@
+pub mod Tokens
+pub mod Bytes
+pub mod Signs
+pub mod Cutting
+pub mod Shown
+pub mod Spelling
+pub mod Given
+pub mod Printed
+pub mod Lines
+pub mod Taken
+pub mod Header

@@ -1,4 +1,0 @@
-pub mod Questions
-pub mod QuestionReading
-pub mod Controllers
-pub mod ControllerReading
