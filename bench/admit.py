@@ -5,15 +5,10 @@ A trace of the largest shape (4 flows, 8 states, 49 rows) that is admitted, the 
 (the same shape, each number of 39 digits), and a refused text of 262,144 bytes. Build the program first, by `./ccac`. It is a measurement and no test.
 """
 import os
-import subprocess
-import sys
-import tempfile
-import time
 
-TOP = os.path.dirname(os.path.dirname(os.path.abspath(__file__)))
-PROGRAM = os.path.join(TOP, "crates", "ccac", "out", "ccac")
+from calls import PROGRAM, TOP, demand_program, folder, report, seconds, stored
+
 QUESTION = os.path.join(TOP, "examples", "half-rate.question")
-CALLS = 200
 LARGEST = 2**127 - 1
 
 
@@ -46,28 +41,16 @@ def refused_text():
     return head + "9" * (262_144 - len(head))
 
 
-def seconds(command):
-    for _ in range(10):
-        subprocess.run(command, stdout=subprocess.DEVNULL)
-    start = time.perf_counter()
-    for _ in range(CALLS):
-        subprocess.run(command, stdout=subprocess.DEVNULL)
-    return (time.perf_counter() - start) / CALLS
-
-
 def main():
-    if not os.access(PROGRAM, os.X_OK):
-        sys.exit("build the program first: ./ccac")
-    for name, text in [("admitted trace of the largest shape", admitted_trace()),
-                       ("largest accepted trace", largest_trace()), ("refused text", refused_text())]:
-        with tempfile.NamedTemporaryFile("w", suffix=".trace", delete=False) as file:
-            file.write(text)
-        command = [PROGRAM, "admit", QUESTION, file.name]
-        report = subprocess.run(command, capture_output=True, text=True)
-        ours, theirs = seconds(command), seconds(["wc", file.name])
-        print(f"{name}: {len(text)} bytes, `{report.stdout.strip()}` ({report.returncode}), "
-              f"{ours * 1e3:.2f} ms, {ours / theirs:.2f} of wc's {theirs * 1e3:.2f} ms")
-        os.unlink(file.name)
+    demand_program()
+    with folder() as place:
+        for name, text in [("admitted trace of the largest shape", admitted_trace()),
+                           ("largest accepted trace", largest_trace()), ("refused text", refused_text())]:
+            file = stored(place, "text.trace", text)
+            command = [PROGRAM, "admit", QUESTION, file]
+            ours, theirs = seconds(command), seconds(["wc", file])
+            print(f"{name}: {len(text)} bytes, {report(command)}, "
+                  f"{ours * 1e3:.2f} ms, {ours / theirs:.2f} of wc's {theirs * 1e3:.2f} ms")
 
 
 if __name__ == "__main__":

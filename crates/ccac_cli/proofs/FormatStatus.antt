@@ -1,13 +1,13 @@
 -- What a status says of a call that put a canonical text.
-use Rattle.std.proofs.Common.{◌≡◌, refl, inl, inr, ℕ, List, Option, Some, arith}
+use Rattle.std.proofs.Common.{refl, inl, inr, ℕ, List, Option, Some, arith}
 use Rattle.ctrl_syntax.specs.declared.syntax.Syntax.{Syntax}
 use Rattle.ctrl_types.specs.declared.controllers.Controller.{Controller}
 use Rattle.ccac_ports.specs.Ports.{Appends}
 use Rattle.ccac_cli.specs.Commands.{Order, format, format_question}
 use Rattle.ccac_cli.specs.Ended.{Got}
 use Rattle.ccac_cli.specs.Fetched.{IsFetched, Told}
-use Rattle.ccac_cli.specs.FormatEnds.{EndsAsked, EndsFormatted, Named}
-use Rattle.ccac_cli.specs.Formats.{AskedFormat, FormatAnswers, QuestionFormat, controller_put, controller_read, controller_refused, controller_refused', formatted, question_put, question_refused, question_text}
+use Rattle.ccac_cli.specs.FormatEnds.{EndsControllerPut, EndsQuestionPut, Named}
+use Rattle.ccac_cli.specs.Formats.{AskedFormat, FormatAnswers, QuestionFormat, controller_put, controller_read, controller_refused, controller_stops, question_put, question_refused}
 use Rattle.ccac_cli.specs.Reports.{Answer, refused}
 use Rattle.ccac_cli.specs.Texts.{IsControllerText}
 use Rattle.ccac_cli.specs.declared.reports.Source.TheVariants.{Controller as ControllerFile, Question as QuestionFile}
@@ -18,16 +18,16 @@ abbrev named_by : (folder : Told) (name bytes : List ℕ) (syntax : Syntax) (c :
 named_by folder name bytes syntax c fetched is = record { bytes = bytes; fetched = fetched; syntax = syntax; controller = c; is = is }
 
 -- a status of 0 whose cause is a controller's text that was put, or a question's
-put_said : (folder : Told) (order : Option Order) (before after : Got) → EndsFormatted folder order before after → Says folder order before after 0
-put_said folder order before after ends = record {
+controller_put_said : (folder : Told) (order : Option Order) (before after : Got) → EndsControllerPut folder order before after → Says folder order before after 0
+controller_put_said folder order before after ends = record {
   zero = λ e. inr (inr (inl ends));
   one = λ e. absurd (omega arith);
   two = λ e. absurd (omega arith);
   four = λ e. absurd (omega arith);
 }
 
-asked_said : (folder : Told) (order : Option Order) (before after : Got) → EndsAsked folder order before after → Says folder order before after 0
-asked_said folder order before after ends = record {
+question_put_said : (folder : Told) (order : Option Order) (before after : Got) → EndsQuestionPut folder order before after → Says folder order before after 0
+question_put_said folder order before after ends = record {
   zero = λ e. inr (inr (inr ends));
   one = λ e. absurd (omega arith);
   two = λ e. absurd (omega arith);
@@ -40,7 +40,7 @@ unfolding refused
 format_said folder c controller _ before after fetched (controller_refused r breaks) put =
     refusal_said folder (Some (format c)) before after (refused ControllerFile r).status refl
 format_said folder c controller _ before after fetched (controller_put syntax cv is) put =
-    put_said folder (Some (format c)) before after
+    controller_put_said folder (Some (format c)) before after
     (record { name = c; ordered = refl; named = named_by folder c controller syntax cv fetched is; put = put })
 
 question_asked : (folder : Told) (c q controller question : List ℕ) (syntax : Syntax) (cv : Controller) (a : Answer) (before after : Got)
@@ -50,7 +50,7 @@ unfolding refused
 question_asked folder c q controller question syntax cv _ before after first second is (question_refused r breaks) put =
     refusal_said folder (Some (format_question c q)) before after (refused QuestionFile r).status refl
 question_asked folder c q controller question syntax cv _ before after first second is (question_put qv asked) put =
-    asked_said folder (Some (format_question c q)) before after
+    question_put_said folder (Some (format_question c q)) before after
     (record {
       controller_name = c;
       question_name = q;
@@ -67,7 +67,7 @@ pub question_said : (folder : Told) (c q controller question : List ℕ) (a : An
     → IsFetched folder ControllerFile c controller → IsFetched folder QuestionFile q question → QuestionFormat controller question a
     → Appends before.text after.text a.text → Says folder (Some (format_question c q)) before after a.status
 unfolding refused
-question_said folder c q controller question _ before after first second (controller_refused' r breaks) put =
+question_said folder c q controller question _ before after first second (controller_stops r breaks) put =
     refusal_said folder (Some (format_question c q)) before after (refused ControllerFile r).status refl
 question_said folder c q controller question _ before after first second (controller_read syntax cv a is answers) put =
     question_asked folder c q controller question syntax cv a before after first second is answers put

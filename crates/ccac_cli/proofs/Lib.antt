@@ -6,3 +6,6 @@ pub mod ReplayStatus
 pub mod FormatStatus
 pub mod StatusLaws
 pub mod Canonical
+pub mod ControllerTexts
+pub mod OneReplay
+pub mod OneAnswer

@@ -1,13 +1,10 @@
 -- What a status says of a call that replayed a run.
 use Rattle.std.proofs.Common.{◌≡◌, refl, inl, inr, ℕ, List, Some, arith}
-use Rattle.run_rows.specs.declared.shapes.Shape.{Shape}
-use Rattle.run_rows.specs.declared.rows.Run.{Run}
 use Rattle.path_server.specs.Limits.{IsSetting}
 use Rattle.ctrl_types.specs.Limits.{IsController}
 use Rattle.ctrl_types.specs.declared.controllers.Controller.{Controller}
 use Rattle.question_text.specs.declared.questions.Question.{Question}
 use Rattle.trace_replay.specs.Replaying.{replaying}
-use Rattle.trace_replay.specs.Spelling.{IsTraceText}
 use Rattle.trace_replay.specs.declared.replaying.Replayed.{Replayed}
 use Rattle.trace_replay.specs.declared.replaying.Replayed.TheVariants.{Violating, Keeps, Broken, Wide}
 use Rattle.trace_replay.proofs.ReplayLaws.{broken_law, keeps_law, violating_law, wide_law}

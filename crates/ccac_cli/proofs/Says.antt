@@ -4,14 +4,14 @@ use Rattle.ccac_cli.specs.Commands.{Order}
 use Rattle.ccac_cli.specs.Ended.{Got}
 use Rattle.ccac_cli.specs.Examination.{EndsAdmitted, EndsBroken, EndsWide}
 use Rattle.ccac_cli.specs.Fetched.{FetchEnds, Told, faulty, longer}
-use Rattle.ccac_cli.specs.FormatEnds.{EndsAsked, EndsFormatted}
+use Rattle.ccac_cli.specs.FormatEnds.{EndsControllerPut, EndsQuestionPut}
 use Rattle.ccac_cli.specs.ReplayEnds.{EndsBreaking, EndsKeeping, EndsPassing, EndsViolating}
 use Rattle.ccac_cli.specs.Reports.{Answer, read_fault, too_long}
 use Rattle.ccac_cli.specs.declared.reports.Source.{Source}
 
 -- what is said of a status, where the call put a whole answer
 pub record Says (folder : Told) (order : Option Order) (old new : Got) (status : ℕ) : Type 0 where
-  pub zero : status ≡ 0 → EndsAdmitted folder order old new ⊎ EndsViolating folder order old new ⊎ EndsFormatted folder order old new ⊎ EndsAsked folder order old new
+  pub zero : status ≡ 0 → EndsAdmitted folder order old new ⊎ EndsViolating folder order old new ⊎ EndsControllerPut folder order old new ⊎ EndsQuestionPut folder order old new
   pub one : status ≡ 1 → EndsBroken folder order old new ⊎ EndsKeeping folder order old new ⊎ EndsBreaking folder order old new
   pub two : status ≡ 2 → EndsWide folder order old new ⊎ EndsPassing folder order old new
   pub four : status ≡ 4 → order ≡ None

@@ -21,14 +21,14 @@ pub record Named (folder : Told) (name : List ℕ) : Type 0 where
   pub is : IsControllerText bytes syntax controller
 
 -- the order was to put a controller, and its canonical text was put
-pub record EndsFormatted (folder : Told) (order : Option Order) (old new : Got) : Type 0 where
+pub record EndsControllerPut (folder : Told) (order : Option Order) (old new : Got) : Type 0 where
   pub name : List ℕ
   pub ordered : order ≡ Some (format name)
   pub named : Named folder name
   pub put : Appends old.text new.text (controller_text named.syntax)
 
 -- the order was to put a question about a controller, and its canonical text was put
-pub record EndsAsked (folder : Told) (order : Option Order) (old new : Got) : Type 0 where
+pub record EndsQuestionPut (folder : Told) (order : Option Order) (old new : Got) : Type 0 where
   pub controller_name : List ℕ
   pub question_name : List ℕ
   pub ordered : order ≡ Some (format_question controller_name question_name)

@@ -36,6 +36,6 @@ pub data AskedFormat (c : Controller) (question : List ℕ) : Answer → Type 0 
 
 -- the one answer to a controller and a question: the controller is read first
 pub data QuestionFormat (controller question : List ℕ) : Answer → Type 0 where
-  controller_refused' : (r : Refusal) → IsControllerRefused controller r → QuestionFormat controller question (refused ControllerFile r)
+  controller_stops : (r : Refusal) → IsControllerRefused controller r → QuestionFormat controller question (refused ControllerFile r)
   controller_read : (syntax : Syntax) (c : Controller) (a : Answer) → IsControllerText controller syntax c → AskedFormat c question a
       → QuestionFormat controller question a

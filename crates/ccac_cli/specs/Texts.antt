@@ -1,11 +1,11 @@
 -- The controllers and questions that the bytes of files are the texts of, and why other bytes are refused.
-use Rattle.std.specs.Prelude.{◌≡◌, ℕ, List, length, ◌⊎◌}
+use Rattle.std.specs.Prelude.{◌≡◌, ℕ, List}
 use Rattle.whole.specs.declared.answers.Refusal.{Refusal}
 use Rattle.path_server.specs.Limits.{IsSetting}
 use Rattle.path_server.specs.declared.settings.Setting.{Setting}
 use Rattle.ctrl_syntax.specs.Grammar as controller_grammar
 use Rattle.ctrl_syntax.specs.Refused as controller_refused
-use Rattle.ctrl_syntax.specs.Sections.{sections_of}
+use Rattle.ctrl_syntax.specs.Sections.{Sections as ControllerSections, sections_of}
 use Rattle.ctrl_syntax.specs.declared.syntax.Syntax.{Syntax}
 use Rattle.ctrl_types.specs.Limits.{IsController}
 use Rattle.ctrl_types.specs.Resolved.{Resolves}
@@ -14,17 +14,18 @@ use Rattle.ctrl_types.specs.declared.controllers.Controller.{Controller}
 use Rattle.question_syntax.specs.Grammar as question_grammar
 use Rattle.question_syntax.specs.Sections.{Sections}
 
--- the bytes spell a controller's syntax that breaks no rule and means this controller
+-- the bytes spell a controller's syntax whose statements break no rule and mean this controller
 pub record IsControllerText (bytes : List ℕ) (syntax : Syntax) (c : Controller) : Type 0 where
   pub spelled : controller_grammar.IsText bytes (sections_of syntax)
-  pub unbroken : IsUnbroken syntax
-  pub resolved : Resolves syntax c
+  pub unbroken : IsUnbroken (sections_of syntax)
+  pub resolved : Resolves (sections_of syntax) c
   pub limits : IsController c
 
--- the bytes spell no controller's syntax, by the first rule that they break; or a line of the syntax breaks a rule first
+-- the bytes spell no controller's syntax, by the first rule that they break; or a statement of what they spell breaks a rule
+-- first
 pub data IsControllerRefused (bytes : List ℕ) (r : Refusal) : Type 0 where
   unread : controller_refused.IsRefused bytes r → IsControllerRefused bytes r
-  unresolved : (syntax : Syntax) → controller_grammar.IsText bytes (sections_of syntax) → IsFirstBroken syntax r → IsControllerRefused bytes r
+  unresolved : (sections : ControllerSections) → controller_grammar.IsText bytes sections → IsFirstBroken sections r → IsControllerRefused bytes r
 
 -- the bytes spell a question's syntax that has this setting
 pub record IsSettingText (bytes : List ℕ) (s : Setting) : Type 0 where

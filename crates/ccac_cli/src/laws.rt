@@ -1,11 +1,37 @@
-// What holds of canonical texts, as the contract of a function that does nothing.
+// What holds of canonical texts and of controllers' texts, as contracts of functions that do nothing.
 ghost use Rattle.std.specs.Prelude.{◌≡◌, ℕ, List};
+ghost use Rattle.whole.specs.declared.answers.Refusal.{Refusal};
 ghost use Rattle.ctrl_syntax.specs.Grammar.{IsText};
 ghost use Rattle.ctrl_syntax.specs.Printed.{printed};
 ghost use Rattle.ctrl_syntax.specs.Sections.{Sections};
+ghost use Rattle.ctrl_syntax.specs.declared.syntax.Syntax.{Syntax};
+ghost use Rattle.ctrl_types.specs.declared.controllers.Controller.{Controller};
+ghost use Rattle.ccac_cli.specs.Admitting.{AdmitAnswers};
+ghost use Rattle.ccac_cli.specs.Commands.{Order};
+ghost use Rattle.ccac_cli.specs.Ended.{BytesAnswer};
+ghost use Rattle.ccac_cli.specs.Formats.{FormatAnswers, QuestionFormat};
+ghost use Rattle.ccac_cli.specs.Replays.{ReplayAnswers};
+ghost use Rattle.ccac_cli.specs.Reports.{Answer};
+ghost use Rattle.ccac_cli.specs.Texts.{IsControllerRefused, IsControllerText};
 
 /// The canonical text of a controller stays as it is: whatever it spells has that canonical text. (Of a question this is
 /// said by `question_text::print`, whose text is read as the same question.)
 pub fn canonical_texts_stay()
     ensures controllers { (bytes : List ℕ) (s t : Sections) → IsText bytes s → IsText (printed s) t → printed t ≡ printed s }
+{}
+
+/// Bytes are a controller's text, or they have one first broken rule alone.
+pub fn controller_texts_are_told_apart()
+    ensures one_refusal { (bytes : List ℕ) (r s : Refusal) → IsControllerRefused bytes r → IsControllerRefused bytes s → r ≡ s }
+    ensures not_both { (bytes : List ℕ) (syntax : Syntax) (c : Controller) (r : Refusal) → IsControllerText bytes syntax c → IsControllerRefused bytes r → ⊥ }
+{}
+
+/// The bytes of an order's files have one answer: those of a question and a trace that are to be admitted, of a controller, a
+/// question and a trace that are to be replayed, and of a controller, or a question for it, that is to be put canonically.
+pub fn one_answer()
+    ensures admitted { (question trace : List ℕ) (a b : Answer) → AdmitAnswers question trace a → AdmitAnswers question trace b → a ≡ b }
+    ensures formatted { (controller : List ℕ) (a b : Answer) → FormatAnswers controller a → FormatAnswers controller b → a ≡ b }
+    ensures replayed { (controller question trace : List ℕ) (a b : Answer) → ReplayAnswers controller question trace a → ReplayAnswers controller question trace b → a ≡ b }
+    ensures questions_formatted { (controller question : List ℕ) (a b : Answer) → QuestionFormat controller question a → QuestionFormat controller question b → a ≡ b }
+    ensures of_the_bytes { (order : Order) (contents : List (List ℕ)) (a b : Answer) → BytesAnswer order contents a → BytesAnswer order contents b → a ≡ b }
 {}

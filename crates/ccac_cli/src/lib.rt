@@ -13,5 +13,5 @@ mod running;
 #[cfg(test)]
 mod tests;
 
-pub use laws::canonical_texts_stay;
+pub use laws::{canonical_texts_stay, controller_texts_are_told_apart, one_answer};
 pub use running::run;

@@ -2,7 +2,7 @@ ghost use Rattle.std.specs.Prelude.{◌≡◌, ◌⊎◌, ℕ, IfOk, None, map, 
 ghost use Rattle.ccac_cli.specs.Commands.{admit, format, format_question, order_of, replay};
 ghost use Rattle.ccac_cli.specs.Ended.{Answers, Ends};
 ghost use Rattle.ccac_cli.specs.Examination.{EndsAdmitted, EndsBroken, EndsWide};
-ghost use Rattle.ccac_cli.specs.FormatEnds.{EndsAsked, EndsFormatted};
+ghost use Rattle.ccac_cli.specs.FormatEnds.{EndsControllerPut, EndsQuestionPut};
 ghost use Rattle.ccac_cli.specs.ReplayEnds.{EndsBreaking, EndsKeeping, EndsPassing, EndsViolating};
 ghost use Rattle.ccac_cli.specs.Settled.{Delivered, Settled};
 ghost use Rattle.ccac_cli.specs.Shown.{shown};
@@ -49,11 +49,11 @@ pub fn run<F: Folder, S: Sink>(
         (record { content = F.content folder.old; faults = F.faults folder.old; excesses = F.excesses folder.old })
         (order_of (map string_bytes words.now.items))
         (record { text = S.text out.old; faults = S.faults out.old })
-        (record { text = S.text out.new; faults = S.faults out.new })) ⊎ (EndsFormatted
+        (record { text = S.text out.new; faults = S.faults out.new })) ⊎ (EndsControllerPut
         (record { content = F.content folder.old; faults = F.faults folder.old; excesses = F.excesses folder.old })
         (order_of (map string_bytes words.now.items))
         (record { text = S.text out.old; faults = S.faults out.old })
-        (record { text = S.text out.new; faults = S.faults out.new })) ⊎ (EndsAsked
+        (record { text = S.text out.new; faults = S.faults out.new })) ⊎ (EndsQuestionPut
         (record { content = F.content folder.old; faults = F.faults folder.old; excesses = F.excesses folder.old })
         (order_of (map string_bytes words.now.items))
         (record { text = S.text out.old; faults = S.faults out.old })
@@ -193,9 +193,13 @@ fn format_files<F: Folder>(
         (record { content = F.content folder.new; faults = F.faults folder.new; excesses = F.excesses folder.new })
         (format_question controller.now question.now) result }
 {
-    let asked = fetch(alloc, folder, Source::Controller, controller)?;
-    let asking = fetch(alloc, folder, Source::Question, question)?;
-    match format_question(alloc, asked.as_slice(), asking.as_slice()) {
+    let controller_bytes = fetch(alloc, folder, Source::Controller, controller)?;
+    let question_bytes = fetch(alloc, folder, Source::Question, question)?;
+    match format_question(
+        alloc,
+        controller_bytes.as_slice(),
+        question_bytes.as_slice(),
+    ) {
         Ok(report) => Ok(report),
         Err(NoMemory) => Err(Halt::NoMemory),
     }

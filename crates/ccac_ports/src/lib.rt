@@ -7,6 +7,7 @@ mod mem_sink;
 mod ports;
 mod real_folder;
 mod real_sink;
+mod streams;
 #[cfg(test)]
 mod tests;
 

@@ -2,13 +2,10 @@ ghost use Rattle.std.specs.Prelude.{◌≡◌, ℕ, ◌<◌, ◌≤◌, List, No
 ghost use Rattle.ccac_ports.specs.Ports.{one_more};
 
 use crate::ports::{FetchFault, Folder};
+use crate::streams::read_whole;
 use std::alloc::Global;
 use std::fs::File;
-use std::io::Read;
 use std::rt::Files;
-
-/// How many bytes are asked for in one turn.
-const CHUNK: usize = 4096;
 
 /// The files of the system, by their paths. One number counts the faults of all names, and one the
 /// excesses. It tells no content.
@@ -61,24 +58,14 @@ impl<'a, R: Files> Folder for RealFolder<'a, R> {
             Ok(file) => file,
             Err(_) => return Err(self.fault()),
         };
-        let mut bytes = Vec::new(self.alloc);
-        let mut chunk = [0u8; CHUNK];
-        loop {
-            let room = (limit - bytes.len() as u64)
-                .saturating_add(1)
-                .min(CHUNK as u64);
-            let taken = match file.read(&mut chunk[..room as usize]) {
-                Ok(taken) => taken,
-                Err(_) => return Err(self.fault()),
-            };
-            if taken == 0 {
-                return Ok(bytes);
-            }
-            if taken as u64 > limit - bytes.len() as u64 {
+        match read_whole(self.alloc, &mut file, limit) {
+            Ok(bytes) => Ok(bytes),
+            Err(FetchFault::Failed) => Err(self.fault()),
+            Err(FetchFault::TooLong) => {
                 self.excesses = self.excesses.saturating_add(1);
-                return Err(FetchFault::TooLong);
+                Err(FetchFault::TooLong)
             }
-            bytes.extend_from_slice(&chunk[..taken])?;
+            Err(FetchFault::NoMemory) => Err(FetchFault::NoMemory),
         }
     }
 }

@@ -1,7 +1,8 @@
 ghost use Rattle.std.specs.Prelude.{◌≡◌, ℕ, ◌<◌, ◌≤◌, List, None, length};
 
 use crate::ports::{PutFault, Sink};
-use std::alloc::Global;
+use crate::streams::write_whole;
+use std::io;
 
 /// The standard output. It doesn't tell the text that it got.
 #[derive(Drop)]
@@ -30,16 +31,13 @@ impl<'a, R: Print> Sink for RealSink<'a, R> {
     ghost faults = { faults };
 
     fn put(&mut self, bytes: &[u8]) -> Result<(), PutFault> {
-        let mut rest = bytes;
-        while !rest.is_empty() {
-            match self.rt.write_some(rest) {
-                Ok(written) if written > 0 => rest = &rest[written..],
-                _ => {
-                    self.faults = self.faults.saturating_add(1);
-                    return Err(PutFault::Failed);
-                }
+        let mut output = io::writer(self.rt);
+        match write_whole(&mut output, bytes) {
+            Ok(()) => Ok(()),
+            Err(fault) => {
+                self.faults = self.faults.saturating_add(1);
+                Err(fault)
             }
         }
-        Ok(())
     }
 }

@@ -2,8 +2,10 @@ ghost use Rattle.std.specs.Prelude.{◌≡◌, ℕ, ◌≤◌, List, ◌++◌, l
 ghost use Rattle.ccac_ports.specs.Ports.{HasRisen, Tells, Appends};
 ghost use Rattle.ccac_ports.specs.declared.tests.Joined.{Joined};
 
+use super::streams::{read_whole, write_whole};
 use super::*;
 use std::fs;
+use std::io::{self, Read};
 use std::test::Fail;
 
 /// What came of joining two files into a sink.
@@ -108,6 +110,71 @@ fn two_files_are_joined(rt: HostRuntime) -> Result<(), Fail> {
         Joined::TooLong
     );
     assert_eq!(rt; sink.text(), b"one twoon".as_slice());
+    Ok(())
+}
+
+#[test]
+fn a_source_is_read_whole_within_the_limit(rt: HostRuntime) -> Result<(), Fail> {
+    let text = b"ccac-trace 1\n";
+    let mut above = text.as_slice();
+    let mut exact = text.as_slice();
+    let mut below = text.as_slice();
+    let mut none = text.as_slice();
+    assert_eq!(rt;
+        read_whole(rt.alloc(), &mut above, 14)?.as_slice(),
+        text.as_slice()
+    );
+    assert_eq!(rt;
+        read_whole(rt.alloc(), &mut exact, 13)?.as_slice(),
+        text.as_slice()
+    );
+    assert_eq!(rt;
+        read_whole(rt.alloc(), &mut below, 10),
+        Err(FetchFault::TooLong)
+    );
+    assert_eq!(rt;
+        read_whole(rt.alloc(), &mut none, 0),
+        Err(FetchFault::TooLong)
+    );
+    assert_eq!(rt; exact, b"".as_slice());
+    assert_eq!(rt; below, b"1\n".as_slice());
+    assert_eq!(rt; none, b"cac-trace 1\n".as_slice());
+    Ok(())
+}
+
+#[test]
+fn a_source_that_gives_few_bytes_at_a_time_is_read_whole(rt: HostRuntime) -> Result<(), Fail> {
+    let mut parts = b"one "
+        .as_slice()
+        .chain(b"two ".as_slice())
+        .chain(b"three".as_slice());
+    let mut long = io::repeat(7).take(9000);
+    let mut longer = io::repeat(7).take(9001);
+    assert_eq!(rt;
+        read_whole(rt.alloc(), &mut parts, 13)?.as_slice(),
+        b"one two three".as_slice()
+    );
+    let read = read_whole(rt.alloc(), &mut long, 9000)?;
+    assert_eq!(rt; read.len(), 9000);
+    assert_eq!(rt; read.iter().all(|byte| *byte == 7), true);
+    assert_eq!(rt;
+        read_whole(rt.alloc(), &mut longer, 9000),
+        Err(FetchFault::TooLong)
+    );
+    Ok(())
+}
+
+#[test]
+fn a_writer_gets_a_text_whole_or_a_part(rt: HostRuntime) -> Result<(), Fail> {
+    let mut text = Vec::new(rt.alloc());
+    let mut page = [0u8; 5];
+    let mut room = page.as_mut_slice();
+    assert_eq!(rt; write_whole(&mut text, b"veri"), Ok(()));
+    assert_eq!(rt; write_whole(&mut text, b"fied"), Ok(()));
+    assert_eq!(rt; write_whole(&mut room, b"ver"), Ok(()));
+    assert_eq!(rt; write_whole(&mut room, b"ified"), Err(PutFault::Failed));
+    assert_eq!(rt; text.as_slice(), b"verified".as_slice());
+    assert_eq!(rt; page.as_slice(), b"verif".as_slice());
     Ok(())
 }
 

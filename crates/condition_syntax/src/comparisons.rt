@@ -23,10 +23,10 @@ fn side_begins(cursor: &Cursor<'_>) -> Result<(), Fault>
     ensures { result ≡ side_begins cursor.now.tokens }
 {
     match cursor.peek() {
-        Lexeme::Number { num, den } => match number_of(num, den) {
-            Ok(_) => Ok(()),
-            Err(fault) => Err(fault),
-        },
+        Lexeme::Number { num, den } => {
+            number_of(num, den)?;
+            Ok(())
+        }
         Lexeme::Word(word) => {
             if is_keyword(word) {
                 Err(Fault::Part)

@@ -78,10 +78,7 @@ fn part(
             cursor.advance();
             Ok(Cond::False)
         }
-        Opening::Delay => match delay(cursor, begun) {
-            Ok(test) => Ok(test),
-            Err(fault) => Err(Halt::Fault(fault)),
-        },
+        Opening::Delay => Ok(delay(cursor, begun)?),
         Opening::Comparison => comparison(alloc, cursor, style, begun),
         Opening::Not => {
             if room == 0 {
@@ -111,10 +108,8 @@ fn opposite(
     ensures line { cursor.new.line ≡ cursor.old.line }
 {
     cursor.advance();
-    match part(alloc, cursor, style, room, begun) {
-        Ok(inner) => Ok(Cond::Not(Box::new(alloc, inner)?)),
-        Err(halt) => Err(halt),
-    }
+    let inner = part(alloc, cursor, style, room, begun)?;
+    Ok(Cond::Not(Box::new(alloc, inner)?))
 }
 
 /// What stands between brackets.
@@ -130,13 +125,9 @@ fn bracketed(
     ensures line { cursor.new.line ≡ cursor.old.line }
 {
     cursor.advance();
-    match condition(alloc, cursor, style, room, begun) {
-        Ok(whole) => match sign(cursor, Sign::Close) {
-            Ok(()) => Ok(whole),
-            Err(fault) => Err(Halt::Fault(fault)),
-        },
-        Err(halt) => Err(halt),
-    }
+    let whole = condition(alloc, cursor, style, room, begun)?;
+    sign(cursor, Sign::Close)?;
+    Ok(whole)
 }
 
 /// Parts joined by `and`.
@@ -154,10 +145,8 @@ fn conjuncts(
 {
     let mut parts = Vec::new(alloc);
     loop {
-        match part(alloc, cursor, style, room, begun) {
-            Ok(part) => parts.push(part)?,
-            Err(halt) => return Err(halt),
-        }
+        let part = part(alloc, cursor, style, room, begun)?;
+        parts.push(part)?;
         if !says(cursor, b"and") {
             return Ok(parts);
         }
@@ -178,10 +167,8 @@ fn conjunction(
     ensures exact { GivesSeen condition_of result (pending begun.new cursor.new.tokens) (conjunction_by (part_by style room) (pending begun.old cursor.old.tokens)) }
     ensures line { cursor.new.line ≡ cursor.old.line }
 {
-    match conjuncts(alloc, cursor, style, room, begun) {
-        Ok(parts) => Ok(all_of(parts)),
-        Err(halt) => Err(halt),
-    }
+    let parts = conjuncts(alloc, cursor, style, room, begun)?;
+    Ok(all_of(parts))
 }
 
 /// Conjunctions joined by `or`.
@@ -199,10 +186,8 @@ fn disjuncts(
 {
     let mut parts = Vec::new(alloc);
     loop {
-        match conjunction(alloc, cursor, style, room, begun) {
-            Ok(part) => parts.push(part)?,
-            Err(halt) => return Err(halt),
-        }
+        let part = conjunction(alloc, cursor, style, room, begun)?;
+        parts.push(part)?;
         if !says(cursor, b"or") {
             return Ok(parts);
         }
@@ -223,8 +208,6 @@ pub(crate) fn condition(
     ensures exact { GivesSeen condition_of result (pending begun.new cursor.new.tokens) (joined_by (part_by style room) (pending begun.old cursor.old.tokens)) }
     ensures line { cursor.new.line ≡ cursor.old.line }
 {
-    match disjuncts(alloc, cursor, style, room, begun) {
-        Ok(parts) => Ok(any_of(parts)),
-        Err(halt) => Err(halt),
-    }
+    let parts = disjuncts(alloc, cursor, style, room, begun)?;
+    Ok(any_of(parts))
 }

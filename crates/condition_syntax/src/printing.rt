@@ -108,14 +108,9 @@ fn put_bracketed_if(
     if !wanted {
         return put_condition(alloc, out, condition);
     }
-    match out.extend_from_slice(b"(") {
-        Ok(()) => {}
-        Err(fault) => return Err(fault),
-    }
-    match put_condition(alloc, out, condition) {
-        Ok(()) => out.extend_from_slice(b")"),
-        Err(fault) => Err(fault),
-    }
+    out.extend_from_slice(b"(")?;
+    put_condition(alloc, out, condition)?;
+    out.extend_from_slice(b")")
 }
 
 /// The negation of a part.
@@ -123,10 +118,7 @@ fn put_bracketed_if(
 fn put_opposite(alloc: Global, out: &mut Vec<u8>, part: &Cond) -> Result<(), AllocError>
     ensures { OnOk result (out.new.items ≡ out.old.items ++ (codes "not " ++ bracketed_if (is_conjunction (condition_of part.now) || is_disjunction (condition_of part.now)) (condition_text (condition_of part.now)))) }
 {
-    match out.extend_from_slice(b"not ") {
-        Ok(()) => {}
-        Err(fault) => return Err(fault),
-    }
+    out.extend_from_slice(b"not ")?;
     let brackets = is_conjunction(part) || is_disjunction(part);
     put_bracketed_if(alloc, out, brackets, part)
 }
@@ -138,15 +130,9 @@ fn put_all(alloc: Global, out: &mut Vec<u8>, parts: &Vec<Cond>) -> Result<(), Al
 {
     let mut joint = b"".as_slice();
     for part in parts {
-        match out.extend_from_slice(joint) {
-            Ok(()) => {}
-            Err(fault) => return Err(fault),
-        }
+        out.extend_from_slice(joint)?;
         let wanted = is_conjunction(part) || is_disjunction(part);
-        match put_bracketed_if(alloc, out, wanted, part) {
-            Ok(()) => {}
-            Err(fault) => return Err(fault),
-        }
+        put_bracketed_if(alloc, out, wanted, part)?;
         joint = b" and ".as_slice();
     }
     Ok(())
@@ -159,14 +145,8 @@ fn put_any(alloc: Global, out: &mut Vec<u8>, parts: &Vec<Cond>) -> Result<(), Al
 {
     let mut joint = b"".as_slice();
     for part in parts {
-        match out.extend_from_slice(joint) {
-            Ok(()) => {}
-            Err(fault) => return Err(fault),
-        }
-        match put_bracketed_if(alloc, out, is_disjunction(part), part) {
-            Ok(()) => {}
-            Err(fault) => return Err(fault),
-        }
+        out.extend_from_slice(joint)?;
+        put_bracketed_if(alloc, out, is_disjunction(part), part)?;
         joint = b" or ".as_slice();
     }
     Ok(())

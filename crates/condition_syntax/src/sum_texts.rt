@@ -115,10 +115,7 @@ fn put_others(alloc: Global, out: &mut Vec<u8>, terms: &[ETerm]) -> Result<(), A
     ensures { OnOk result (out.new.items ≡ out.old.items ++ flat_map later_text terms.now) }
 {
     for term in terms {
-        match put_later(alloc, out, term) {
-            Ok(()) => {}
-            Err(fault) => return Err(fault),
-        }
+        put_later(alloc, out, term)?;
     }
     Ok(())
 }

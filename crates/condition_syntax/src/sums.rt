@@ -41,10 +41,8 @@ fn terms(
 {
     let mut terms = Items::new(alloc);
     for _i in 0..TERM_LIMIT {
-        match term(alloc, cursor, style, negative) {
-            Ok(term) => terms.push(term)?,
-            Err(halt) => return Err(halt),
-        }
+        let term = term(alloc, cursor, style, negative)?;
+        terms.push(term)?;
         match onward(cursor) {
             None => return Ok(terms),
             Some(next) => {

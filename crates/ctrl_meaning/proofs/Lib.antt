@@ -3,6 +3,7 @@ pub mod OpeningLaws
 pub mod Questions
 pub mod Readiness
 pub mod Scales
+pub mod SeenLaws
 pub mod SendLaws
 pub mod StepLaws
 pub mod Sums

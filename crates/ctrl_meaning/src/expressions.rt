@@ -7,7 +7,7 @@ ghost use Rattle.ctrl_types.specs.Limits.{IsSource};
 ghost use Rattle.ctrl_meaning.specs.Expressions.{AreTerms, comparison_claim, lin_terms, scale_of_two, scale_with, source_terms};
 ghost use Rattle.ctrl_meaning.specs.Readings.{IsReading, states_at};
 
-use crate::readings::{Reading, entries, state_value};
+use crate::readings::Reading;
 use ctrl_types::{Lin, Source};
 use run_rows::Run;
 use weighing::{Rel5, Side, Weighing, with_denominator};
@@ -35,17 +35,17 @@ fn plus_source(weighing: Weighing, run: &Run, at: &Reading, factor: i128, of: So
     match of {
         Source::One => weighing.plus(factor, run.over),
         Source::State(state) => {
-            let value = state_value(run, at.states, at.flow, state);
+            let value = run.state(at.states, at.flow, state);
             weighing.plus(factor, value)
         }
         Source::Acked => {
-            let now = entries(run, at.heard, at.flow);
-            let before = entries(run, at.heard - 1, at.flow);
+            let now = run.flow(at.heard, at.flow);
+            let before = run.flow(at.heard - 1, at.flow);
             weighing.plus(factor, now.s).plus(negated(factor), before.s)
         }
         Source::Lost => {
-            let now = entries(run, at.heard, at.flow);
-            let before = entries(run, at.heard - 1, at.flow);
+            let now = run.flow(at.heard, at.flow);
+            let before = run.flow(at.heard - 1, at.flow);
             weighing.plus(factor, now.l).plus(negated(factor), before.l)
         }
     }

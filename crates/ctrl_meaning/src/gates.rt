@@ -7,7 +7,7 @@ ghost use Rattle.ctrl_meaning.specs.Guards.{CanWeigh, delay_claim, test_claim};
 ghost use Rattle.ctrl_meaning.specs.Readings.{IsReading};
 
 use crate::expressions::comparison;
-use crate::readings::{Reading, entries};
+use crate::readings::Reading;
 use ctrl_types::Gate;
 use run_rows::Run;
 use weighing::{Rel5, Term, both, compare, either, not};
@@ -70,8 +70,8 @@ fn was_served(rows: u32, run: &Run, at: &Reading) -> Result<bool, Stuck>
     requires rows_in { rows ≤ at.now.heard }
     ensures { result ≡ outcome at.now.row (delay_claim run.now at.now rows) }
 {
-    let then = entries(run, at.heard - rows, at.flow);
-    let now = entries(run, at.heard, at.flow);
+    let then = run.flow(at.heard - rows, at.flow);
+    let now = run.flow(at.heard, at.flow);
     let terms = [Term(1, then.a), Term(-1, then.l), Term(-1, now.s)];
     compare(at.row, &terms, Rel5::AtLeast)
 }

@@ -12,7 +12,6 @@ ghost use Rattle.ctrl_meaning.specs.Opening.{declared_state, opening, range_clai
 
 use crate::asking::noted;
 use crate::expressions::negated;
-use crate::readings::state_value;
 use ctrl_types::{Controller, State};
 use path_server::Setting;
 use run_rows::Run;
@@ -89,7 +88,7 @@ fn first_out_of_range(
     let mut found = None;
     for state in 0..controller.states.len() as u32 {
         let declared = &controller.states.as_slice()[state as usize];
-        let value = state_value(run, row, flow, state);
+        let value = run.state(row, flow, state);
         let holds = is_in_range(declared, value, run.over, row)?;
         found = noted(found, state, !holds);
     }

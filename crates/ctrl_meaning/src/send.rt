@@ -8,7 +8,7 @@ ghost use Rattle.ctrl_meaning.specs.Sends.{growth_terms, paced_outcome, rate_ter
 ghost use Rattle.ctrl_meaning.specs.Steps.{sent};
 
 use crate::expressions::{negated, plus_lin, scale_with};
-use crate::readings::{Reading, entries};
+use crate::readings::Reading;
 use ctrl_types::{Controller, Lin};
 use run_rows::Run;
 use weighing::{Rel5, Side, Term, Weighing, both, either};
@@ -61,8 +61,8 @@ fn growth(run: &Run, at: &Reading) -> Weighing
     requires at_in { IsReading run.now at.now }
     ensures { result ≡ weighed at.now.row (growth_terms run.now at.now) }
 {
-    let now = entries(run, at.row, at.flow);
-    let before = entries(run, at.row - 1, at.flow);
+    let now = run.flow(at.row, at.flow);
+    let before = run.flow(at.row - 1, at.flow);
     Weighing::new(at.row).plus_all(&[Term(1, now.a), Term(-1, before.a)])
 }
 
@@ -76,8 +76,8 @@ fn over_window(run: &Run, at: &Reading, window: &Lin) -> Weighing
 {
     let scale = scale_with(1, run, at, window);
     let unit = i128::from(scale);
-    let now = entries(run, at.row, at.flow);
-    let heard = entries(run, at.heard, at.flow);
+    let now = run.flow(at.row, at.flow);
+    let heard = run.flow(at.heard, at.flow);
     let terms = [
         Term(unit, now.a),
         Term(negated(unit), heard.s),
@@ -97,8 +97,8 @@ fn over_rate(run: &Run, at: &Reading, rate: &Lin) -> Weighing
 {
     let scale = scale_with(1, run, at, rate);
     let unit = i128::from(scale);
-    let now = entries(run, at.row, at.flow);
-    let before = entries(run, at.row - 1, at.flow);
+    let now = run.flow(at.row, at.flow);
+    let before = run.flow(at.row - 1, at.flow);
     let start = Weighing::new(at.row).plus_all(&[Term(unit, now.a), Term(negated(unit), before.a)]);
     plus_lin(start, run, at, Side::Right, scale, rate)
 }

@@ -9,7 +9,7 @@ ghost use Rattle.ctrl_meaning.specs.Steps.{differing, fired, set_claim};
 use crate::asking::noted;
 use crate::expressions::{plus_lin, scale_with};
 use crate::gates::gate_holds;
-use crate::readings::{Reading, state_value};
+use crate::readings::Reading;
 use ctrl_types::{Controller, Lin};
 use run_rows::Run;
 use weighing::{Rel5, Side, Term, Weighing, compare};
@@ -75,8 +75,8 @@ fn is_kept(run: &Run, at: &Reading, state: u32) -> Result<bool, Stuck>
     requires before { state < states_at run.now at.now }
     ensures { result ≡ outcome at.now.row (set_claim run.now at.now state None) }
 {
-    let here = state_value(run, at.row, at.flow, state);
-    let before = state_value(run, at.states, at.flow, state);
+    let here = run.state(at.row, at.flow, state);
+    let before = run.state(at.states, at.flow, state);
     compare(at.row, &[Term(1, here), Term(-1, before)], Rel5::Equal)
 }
 
@@ -89,7 +89,7 @@ fn has_value(run: &Run, at: &Reading, state: u32, lin: &Lin) -> Result<bool, Stu
     requires set_in { CanSum run.now at.now (Some lin.now) }
     ensures { result ≡ outcome at.now.row (set_claim run.now at.now state (Some lin.now)) }
 {
-    let here = state_value(run, at.row, at.flow, state);
+    let here = run.state(at.row, at.flow, state);
     let scale = scale_with(1, run, at, lin);
     let start = Weighing::new(at.row).plus(i128::from(scale), here);
     plus_lin(start, run, at, Side::Right, scale, lin).stands(Rel5::Equal)

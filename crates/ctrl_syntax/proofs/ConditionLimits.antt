@@ -19,7 +19,8 @@ use Rattle.condition_syntax.specs.Trees.{Condition, opposite, conjunction, disju
 use Rattle.condition_syntax.specs.Printing.{is_conjunction, is_disjunction}
 use Rattle.condition_syntax.specs.Grammar.{IsNumber, SpellsName, plain, SpellsTerm, constant, multiple, single, joint_of, SpellsTerms, last_term, more_terms, SpellsExpr, unsigned, negative, Joined, one, more, SpellsSimple, truth, falsity, test, compared, SpellsOpened, simple, negated, bracketed as in_brackets, Nothing, SpellsConjunction, SpellsJoined, SpellsPart, SpellsCond}
 use Rattle.condition_syntax.proofs.TextShows.{from_line_parts}
-use Rattle.ctrl_syntax.specs.Limits.{IsPlainName, IsPlainTerm, IsExpr, CondExprs, CondDelays, IsUnsigned, bracketed, nesting, IsCondition}
+use Rattle.condition_syntax.specs.Limits.{EachExpr, EachDelay}
+use Rattle.ctrl_syntax.specs.Limits.{IsPlainName, IsPlainTerm, IsExpr, IsUnsigned, bracketed, nesting, IsCondition}
 
 -- ---- numbers
 
@@ -82,8 +83,8 @@ as_conjunction c = bracketed (is_disjunction c) (nesting c)
 
 -- a condition with such expressions and tests of delay, that nests so deep
 pub record Within (Q : Expr → Type 0) (P : Num → Type 0) (depth : Condition → ℕ) (room : ℕ) (c : Condition) : Type 0 where
-  pub exprs : CondExprs Q c
-  pub delays : CondDelays P c
+  pub exprs : EachExpr Q c
+  pub delays : EachDelay P c
   pub shallow : depth c ≤ room
 
 fewer_brackets : (a b : Bool) (n : ℕ) → bracketed b n ≤ bracketed (a || b) n

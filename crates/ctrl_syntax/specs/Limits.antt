@@ -4,6 +4,7 @@ use Rattle.source_text.specs.Spelling.{is_word}
 use Rattle.weighing.specs.Scaled.{IsNum}
 use Rattle.weighing.specs.declared.scales.Num.{Num}
 use Rattle.condition_syntax.specs.Fronts.{is_keyword}
+use Rattle.condition_syntax.specs.Limits.{EachExpr, EachDelay}
 use Rattle.condition_syntax.specs.Printing.{is_conjunction, is_disjunction}
 use Rattle.condition_syntax.specs.Trees.{Condition, always, never, comparison, delay, opposite, end_of_all, all_of, end_of_any, any_of, comparisons, condition_of}
 use Rattle.condition_syntax.specs.declared.conditions.Cond.{Cond}
@@ -44,30 +45,6 @@ pub record IsExpr (expr : Expr) : Type 0 where
 
 -- ---- conditions
 
--- each expression of a condition is such a one
-abbrev pub CondExprs : (Expr → Type 0) → Condition → Type 0
-CondExprs Q always = Unit {0}
-CondExprs Q never = Unit {0}
-CondExprs Q (comparison left rel right) = Q left × Q right
-CondExprs Q (delay q) = Unit {0}
-CondExprs Q (opposite c) = CondExprs Q c
-CondExprs Q end_of_all = Unit {0}
-CondExprs Q (all_of c rest) = CondExprs Q c × CondExprs Q rest
-CondExprs Q end_of_any = Unit {0}
-CondExprs Q (any_of c rest) = CondExprs Q c × CondExprs Q rest
-
--- each number of a condition's tests of delay is such a one
-abbrev pub CondDelays : (Num → Type 0) → Condition → Type 0
-CondDelays P always = Unit {0}
-CondDelays P never = Unit {0}
-CondDelays P (comparison left rel right) = Unit {0}
-CondDelays P (delay q) = P q
-CondDelays P (opposite c) = CondDelays P c
-CondDelays P end_of_all = Unit {0}
-CondDelays P (all_of c rest) = CondDelays P c × CondDelays P rest
-CondDelays P end_of_any = Unit {0}
-CondDelays P (any_of c rest) = CondDelays P c × CondDelays P rest
-
 -- a number as it is written, with no sign
 pub record IsUnsigned (q : Num) : Type 0 where
   pub size : IsNum q
@@ -93,8 +70,8 @@ nesting (any_of c rest) = max (bracketed (is_disjunction c) (nesting c)) (nestin
 pub record IsCondition (c : Condition) : Type 0 where
   pub few : comparisons c ≤ 16
   pub shallow : nesting c ≤ 16
-  pub each_expr : CondExprs IsExpr c
-  pub each_delay : CondDelays IsUnsigned c
+  pub each_expr : EachExpr IsExpr c
+  pub each_delay : EachDelay IsUnsigned c
 
 -- ---- lines
 

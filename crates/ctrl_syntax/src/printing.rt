@@ -47,10 +47,7 @@ fn put_states(alloc: Global, out: &mut Vec<u8>, states: &[StateLine]) -> Result<
     ensures { OnOk result (out.new.items ≡ out.old.items ++ flat_map (line_text state_text) states.now) }
 {
     for state in states {
-        match put_state(alloc, out, state) {
-            Ok(()) => {}
-            Err(fault) => return Err(fault),
-        }
+        put_state(alloc, out, state)?;
     }
     Ok(())
 }
@@ -83,10 +80,7 @@ fn put_sets(alloc: Global, out: &mut Vec<u8>, sets: &[SetLine]) -> Result<(), Al
     ensures { OnOk result (out.new.items ≡ out.old.items ++ flat_map (line_text set_text) sets.now) }
 {
     for set in sets {
-        match put_set(alloc, out, set) {
-            Ok(()) => {}
-            Err(fault) => return Err(fault),
-        }
+        put_set(alloc, out, set)?;
     }
     Ok(())
 }
@@ -103,10 +97,7 @@ fn put_rules(alloc: Global, out: &mut Vec<u8>, rules: &[RuleLine]) -> Result<(),
     ensures { OnOk result (out.new.items ≡ out.old.items ++ flat_map rule_text (rules_of rules.now)) }
 {
     for rule in rules {
-        match put_rule(alloc, out, rule) {
-            Ok(()) => {}
-            Err(fault) => return Err(fault),
-        }
+        put_rule(alloc, out, rule)?;
     }
     Ok(())
 }

@@ -88,10 +88,8 @@ fn states(alloc: Global, rest: &mut Rest<'_>) -> Result<Items<StateLine>, ReadFa
         if states.len() == STATE_LIMIT {
             return Err(ReadFault::Refused(refusal(11, rest.number())));
         }
-        match state_line(alloc, rest) {
-            Ok(state) => states.push(state)?,
-            Err(fault) => return Err(fault),
-        }
+        let state = state_line(alloc, rest)?;
+        states.push(state)?;
     }
     Ok(states)
 }
@@ -103,10 +101,8 @@ fn sets(alloc: Global, rest: &mut Rest<'_>) -> Result<Items<SetLine>, ReadFault>
 {
     let mut sets = Items::new(alloc);
     while rest.begins_with(b"set") {
-        match set_line(alloc, rest) {
-            Ok(set) => sets.push(set)?,
-            Err(fault) => return Err(fault),
-        }
+        let set = set_line(alloc, rest)?;
+        sets.push(set)?;
     }
     Ok(sets)
 }
@@ -129,10 +125,8 @@ fn rules(alloc: Global, rest: &mut Rest<'_>) -> Result<Items<RuleLine>, ReadFaul
         if rules.len() == RULE_LIMIT {
             return Err(ReadFault::Refused(refusal(11, rest.number())));
         }
-        match rule(alloc, rest) {
-            Ok(rule) => rules.push(rule)?,
-            Err(fault) => return Err(fault),
-        }
+        let rule = rule(alloc, rest)?;
+        rules.push(rule)?;
     }
     Ok(rules)
 }

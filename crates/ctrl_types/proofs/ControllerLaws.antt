@@ -11,17 +11,16 @@ use Rattle.std.proofs.lemmas.List.Elements.{All-nil, All-cons, All-head, All-tai
 use Rattle.weighing.specs.Scaled.{IsNum, den_of}
 use Rattle.weighing.specs.declared.scales.Num.{Num}
 use Rattle.condition_syntax.specs.Trees as conditions
-use Rattle.condition_syntax.specs.Trees.{Condition, condition_of}
-use Rattle.condition_syntax.specs.declared.conditions.Cond.{Cond}
+use Rattle.condition_syntax.specs.Trees.{Condition}
 use Rattle.condition_syntax.specs.declared.expressions.Expr.{Expr}
 use Rattle.condition_syntax.specs.declared.expressions.ETerm.{ETerm}
 use Rattle.condition_syntax.specs.declared.expressions.Name.{Name}
-use Rattle.ctrl_syntax.specs.Limits.{CondExprs, CondDelays, IsExpr, IsGuard, IsRateLine, IsRuleLine, IsSetLine, IsStateLine, IsSyntax}
+use Rattle.condition_syntax.specs.Limits.{EachExpr, EachDelay}
+use Rattle.ctrl_syntax.specs.Limits.{IsExpr, IsRateLine, IsSetLine, IsStateLine}
 use Rattle.ctrl_syntax.specs.declared.syntax.StateLine.{StateLine}
 use Rattle.ctrl_syntax.specs.declared.syntax.SetLine.{SetLine}
-use Rattle.ctrl_syntax.specs.declared.syntax.RuleLine.{RuleLine}
 use Rattle.ctrl_syntax.specs.declared.syntax.RateLine.{RateLine}
-use Rattle.ctrl_syntax.specs.declared.syntax.Syntax.{Syntax}
+use Rattle.ctrl_syntax.specs.Sections.{Rule as WrittenRule, Sections}
 use Rattle.ctrl_types.specs.declared.controllers.Controller.{Controller}
 use Rattle.ctrl_types.specs.declared.controllers.Rule.{Rule}
 use Rattle.ctrl_types.specs.declared.expressions.Lin.{Lin}
@@ -42,11 +41,12 @@ use Rattle.ctrl_types.proofs.LoopLaws.{state_within}
 use Rattle.ctrl_types.proofs.MeaningLaws.{Carries, GuardDelays, GuardExprs, RuleExprs, comparisons_kept, guard_delays_from, guard_delays_to}
 use Rattle.ctrl_types.proofs.NameLaws.{AreFound, coefs_are, found_length, lin_is_found}
 use Rattle.ctrl_types.proofs.NameLaws as names
+use Rattle.ctrl_types.proofs.SectionLimits.{AreSectionsWithin, IsGuardWithin, IsRuleWithin}
 use Rattle.ctrl_types.proofs.TextLaws.{IsRead, IsSoundRule}
 
 -- ---- tests of delay
 
-cond_weaker : (P Q : Num → Type 0) → ((q : Num) → P q → Q q) → (c : Condition) → CondDelays P c → CondDelays Q c
+cond_weaker : (P Q : Num → Type 0) → ((q : Num) → P q → Q q) → (c : Condition) → EachDelay P c → EachDelay Q c
 cond_weaker P Q to conditions.always are = tt
 cond_weaker P Q to conditions.never are = tt
 cond_weaker P Q to (conditions.comparison left rel right) are = tt
@@ -66,10 +66,10 @@ record IsGreatest (k : ℕ) (Reached : ℕ → Type 0) (g : ℕ) : Type 0 where
   reached : Reached g
   least : (m : ℕ) → k ≤ m → Reached m → g ≤ m
 
-rows_up : (a b : ℕ) → a ≤ b → (c : Condition) → CondDelays (RowsTo a) c → CondDelays (RowsTo b) c
+rows_up : (a b : ℕ) → a ≤ b → (c : Condition) → EachDelay (RowsTo a) c → EachDelay (RowsTo b) c
 rows_up a b le c are = cond_weaker (RowsTo a) (RowsTo b) (λ q within. omega arith) c are
 
-greatest : (k : ℕ) (c : Condition) → IsGreatest k (λ m. CondDelays (RowsTo m) c) (greatest_delay k c)
+greatest : (k : ℕ) (c : Condition) → IsGreatest k (λ m. EachDelay (RowsTo m) c) (greatest_delay k c)
 greatest k conditions.always = record { start = omega arith; reached = tt; least = λ m start reached. start }
 greatest k conditions.never = record { start = omega arith; reached = tt; least = λ m start reached. start }
 greatest k (conditions.comparison left rel right) = record { start = omega arith; reached = tt; least = λ m start reached. start }
@@ -94,18 +94,18 @@ greatest k (conditions.any_of c rest) =
       least = λ m start reached. two.least m (one.least m start reached.0) reached.1;
     }
 
-abbrev GuardRows : ℕ → RuleLine → Type 0
+abbrev GuardRows : ℕ → WrittenRule → Type 0
 GuardRows m r = GuardDelays (λ n. n ≤ m) r.guard
 
-guard_greatest : (k : ℕ) (g : Option Cond) → IsGreatest k (λ m. GuardDelays (λ n. n ≤ m) g) (guard_delay k g)
+guard_greatest : (k : ℕ) (g : Option Condition) → IsGreatest k (λ m. GuardDelays (λ n. n ≤ m) g) (guard_delay k g)
 guard_greatest k None = record { start = omega arith; reached = tt; least = λ m start reached. start }
-guard_greatest k (Some c) = let is = greatest k (condition_of c) in record { start = is.start; reached = is.reached; least = is.least }
+guard_greatest k (Some c) = let is = greatest k c in record { start = is.start; reached = is.reached; least = is.least }
 
-guard_up : (a b : ℕ) → a ≤ b → (g : Option Cond) → GuardDelays (λ n. n ≤ a) g → GuardDelays (λ n. n ≤ b) g
+guard_up : (a b : ℕ) → a ≤ b → (g : Option Condition) → GuardDelays (λ n. n ≤ a) g → GuardDelays (λ n. n ≤ b) g
 guard_up a b le None are = tt
-guard_up a b le (Some c) are = rows_up a b le (condition_of c) are
+guard_up a b le (Some c) are = rows_up a b le c are
 
-rules_greatest : (k : ℕ) (rules : List RuleLine) → IsGreatest k (λ m. All (GuardRows m) rules) (rules_delay k rules)
+rules_greatest : (k : ℕ) (rules : List WrittenRule) → IsGreatest k (λ m. All (GuardRows m) rules) (rules_delay k rules)
 rules_greatest k [] = record { start = omega arith; reached = All-nil (GuardRows k); least = λ m start reached. start }
 rules_greatest k (r ∷ rules) =
     let one = guard_greatest k r.guard in
@@ -129,7 +129,7 @@ fit_rows : (q : Num) → is_unfit q ≡ false → rows_of q ≤ 8
 unfolding is_unfit
 fit_rows q e = let few = or_right (not (unsigned_abs q.num % den_of q == 0)) (nat_lt 8 (rows_of q)) e in grind (arith, common_steps)
 
-fit : (c : Condition) → any_delay is_unfit c ≡ false → CondDelays (RowsTo 8) c
+fit : (c : Condition) → any_delay is_unfit c ≡ false → EachDelay (RowsTo 8) c
 fit conditions.always e = tt
 fit conditions.never e = tt
 fit (conditions.comparison left rel right) e = tt
@@ -140,9 +140,9 @@ fit (conditions.all_of c rest) e = (fit c (or_left (any_delay is_unfit c) (any_d
 fit conditions.end_of_any e = tt
 fit (conditions.any_of c rest) e = (fit c (or_left (any_delay is_unfit c) (any_delay is_unfit rest) e), fit rest (or_right (any_delay is_unfit c) (any_delay is_unfit rest) e))
 
-fit_guard : (g : Option Cond) → in_guard (any_delay is_unfit) g ≡ false → GuardDelays (λ n. n ≤ 8) g
+fit_guard : (g : Option Condition) → in_guard (any_delay is_unfit) g ≡ false → GuardDelays (λ n. n ≤ 8) g
 fit_guard None e = tt
-fit_guard (Some c) e = fit (condition_of c) e
+fit_guard (Some c) e = fit c e
 
 -- ---- expressions
 
@@ -189,7 +189,7 @@ carries_lins states = record {
 -- ---- the limits of a text
 
 module _ (E : Expr → Type 0) (to : (expr : Expr) → IsExpr expr → E expr) where
-  cond_from_limits : (c : Condition) → CondExprs IsExpr c → CondExprs E c
+  cond_from_limits : (c : Condition) → EachExpr IsExpr c → EachExpr E c
   cond_from_limits conditions.always are = tt
   cond_from_limits conditions.never are = tt
   cond_from_limits (conditions.comparison left rel right) are = (to left are.0, to right are.1)
@@ -200,11 +200,11 @@ module _ (E : Expr → Type 0) (to : (expr : Expr) → IsExpr expr → E expr) w
   cond_from_limits conditions.end_of_any are = tt
   cond_from_limits (conditions.any_of c rest) are = (cond_from_limits c are.0, cond_from_limits rest are.1)
 
-  guard_from_limits : (g : Option Cond) → IsGuard g → GuardExprs E g
+  guard_from_limits : (g : Option Condition) → IsGuardWithin g → GuardExprs E g
   guard_from_limits None is = tt
-  guard_from_limits (Some c) is = cond_from_limits (condition_of c) is.each_expr
+  guard_from_limits (Some c) is = cond_from_limits c is.each_expr
 
-  rule_from_limits : (r : RuleLine) → IsRuleLine r → RuleExprs E r
+  rule_from_limits : (r : WrittenRule) → IsRuleWithin r → RuleExprs E r
   rule_from_limits r is = record {
     guard = guard_from_limits r.guard is.guard;
     sets = All-weaker IsSetLine (λ (l : SetLine). E l.expr) (λ l line. to l.expr line.expr) r.sets is.each_set;
@@ -214,28 +214,28 @@ module _ (E : Expr → Type 0) (to : (expr : Expr) → IsExpr expr → E expr) w
   rate_from_limits None is = tt
   rate_from_limits (Some r) is = to r.expr is
 
-  text_from_limits : (syntax : Syntax) → IsSyntax syntax → TextExprs E syntax
-  text_from_limits syntax is = record {
-    rules = All-weaker IsRuleLine (RuleExprs E) (λ r line. rule_from_limits r line) syntax.rules is.each_rule;
-    window = to syntax.window is.window;
-    rate = rate_from_limits syntax.rate is.rate;
+  text_from_limits : (sections : Sections) → AreSectionsWithin sections → TextExprs E sections
+  text_from_limits sections is = record {
+    rules = All-weaker IsRuleWithin (RuleExprs E) (λ r line. rule_from_limits r line) sections.rules is.each_rule;
+    window = to sections.window is.window;
+    rate = rate_from_limits sections.rate is.rate;
   }
 
-text_nums : (syntax : Syntax) → IsSyntax syntax → TextNums IsNum syntax
-text_nums syntax is = record {
-  states = All-weaker IsStateLine (BothAre IsNum) (λ s line. (line.lo, line.hi)) syntax.states is.each_state;
-  exprs = text_from_limits (CoefsAre IsNum) (λ expr within. coefs_are expr.terms within.each_term) syntax is;
+text_nums : (sections : Sections) → AreSectionsWithin sections → TextNums IsNum sections
+text_nums sections is = record {
+  states = All-weaker IsStateLine (BothAre IsNum) (λ s line. (line.lo, line.hi)) sections.states is.each_state;
+  exprs = text_from_limits (CoefsAre IsNum) (λ expr within. coefs_are expr.terms within.each_term) sections is;
 }
 
 -- ---- rules
 
-rule_in : (states : List StateLine) (r : RuleLine) (rule : Rule) → RuleMeans states r (rule_seen rule) → IsRuleLine r → IsRule (length states) rule
+rule_in : (states : List StateLine) (r : WrittenRule) (rule : Rule) → RuleMeans states r (rule_seen rule) → IsRuleWithin r → IsRule (length states) rule
 rule_in states r rule means line = record {
   comparisons_to = few r.guard means.guard line.guard;
   places = ap length means.sets ∙ length-map states (place_of states r.sets);
 }
   where
-    few : (g : Option Cond) → GuardMeans states g (test_of rule.guard) → IsGuard g → comparisons (test_of rule.guard) ≤ 16
+    few : (g : Option Condition) → GuardMeans states g (test_of rule.guard) → IsGuardWithin g → comparisons (test_of rule.guard) ≤ 16
     few None always is = let none = ap comparisons always in omega arith
     few (Some c) kept is = let same = comparisons_kept kept in let to = is.few in omega arith
 
@@ -244,77 +244,77 @@ unturned true e = refl
 unturned false e = absurd (cc)
 
 -- the last rule
-record IsLast (syntax : Syntax) (c : Controller) : Type 0 where
-  some : 1 ≤ length syntax.rules
-  always : test_of (get_or c.rules (length syntax.rules - 1) no_rule).guard ≡ tests.always
+record IsLast (sections : Sections) (c : Controller) : Type 0 where
+  some : 1 ≤ length sections.rules
+  always : test_of (get_or c.rules (length sections.rules - 1) no_rule).guard ≡ tests.always
 
-last_is : (syntax : Syntax) (c : Controller) → IsRead syntax (controller_seen c) → IsLast syntax c
+last_is : (sections : Sections) (c : Controller) → IsRead sections (controller_seen c) → IsLast sections c
 unfolding ends_otherwise
-last_is syntax c read = by (slice_get syntax.rules (length syntax.rules - 1)) refl read.ended
+last_is sections c read = by (slice_get sections.rules (length sections.rules - 1)) refl read.ended
   where
-    always : (r : RuleLine) (t : Test) → GuardMeans syntax.states r.guard t → (g : Option Cond) → r.guard ≡ g → is_none g ≡ true → t ≡ tests.always
-    always r t means None p q = subst (λ (o : Option Cond). GuardMeans syntax.states o t) p means
+    always : (r : WrittenRule) (t : Test) → GuardMeans sections.states r.guard t → (g : Option Condition) → r.guard ≡ g → is_none g ≡ true → t ≡ tests.always
+    always r t means None p q = subst (λ (o : Option Condition). GuardMeans sections.states o t) p means
     always r t means (Some x) p q = absurd (cc)
 
-    by : (o : Option RuleLine) → slice_get syntax.rules (length syntax.rules - 1) ≡ o → not (is_otherwise o) ≡ false → IsLast syntax c
+    by : (o : Option WrittenRule) → slice_get sections.rules (length sections.rules - 1) ≡ o → not (is_otherwise o) ≡ false → IsLast sections c
     by None p q = absurd (cc)
     by (Some r) p q =
-        let at = pair_at (RuleMeans syntax.states) syntax.rules c.rules (length syntax.rules - 1) no_rule r read.resolves.rules p in
+        let at = pair_at (RuleMeans sections.states) sections.rules c.rules (length sections.rules - 1) no_rule r read.resolves.rules p in
         let inside = at.0 in
         let unended : is_none r.guard ≡ true = unturned (is_none r.guard) q in
-        record { some = omega arith; always = always r (test_of (get_or c.rules (length syntax.rules - 1) no_rule).guard) at.1.guard r.guard refl unended }
+        record { some = omega arith; always = always r (test_of (get_or c.rules (length sections.rules - 1) no_rule).guard) at.1.guard r.guard refl unended }
 
 -- ---- the whole controller
 
-module _ (syntax : Syntax) (is : IsSyntax syntax) (c : Controller) (read : IsRead syntax (controller_seen c)) where
-  all_nums : All IsNum (flat_map numbers (sayings syntax))
-  all_nums = text_to IsNum syntax (text_nums syntax is)
+module _ (sections : Sections) (is : AreSectionsWithin sections) (c : Controller) (read : IsRead sections (controller_seen c)) where
+  all_nums : All IsNum (flat_map numbers (sayings sections))
+  all_nums = text_to IsNum sections (text_nums sections is)
 
   den_is : (m : ℕ) → unsigned_abs c.den ≡ m → NumsAre (λ n. den_of n ∣ m) c → NumsAre (λ n. den_of n ∣ unsigned_abs c.den) c
   den_is m same are = subst (λ (k : ℕ). NumsAre (λ n. den_of n ∣ k) c) (sym same) are
 
-  delays_to : (P : ℕ → Type 0) → All (λ (r : RuleLine). GuardDelays P r.guard) syntax.rules → DelaysAre P c
+  delays_to : (P : ℕ → Type 0) → All (λ (r : WrittenRule). GuardDelays P r.guard) sections.rules → DelaysAre P c
   delays_to P are =
-      pairs_to (RuleMeans syntax.states) (λ (r : RuleLine). GuardDelays P r.guard) (λ (rule : Rule). TestDelays P (test_of rule.guard))
-      (λ l r means delays. guard_delays_to syntax.states P l.guard (test_of r.guard) means.guard delays) syntax.rules c.rules read.resolves.rules are
+      pairs_to (RuleMeans sections.states) (λ (r : WrittenRule). GuardDelays P r.guard) (λ (rule : Rule). TestDelays P (test_of rule.guard))
+      (λ l r means delays. guard_delays_to sections.states P l.guard (test_of r.guard) means.guard delays) sections.rules c.rules read.resolves.rules are
 
-  delays_from : (P : ℕ → Type 0) → DelaysAre P c → All (λ (r : RuleLine). GuardDelays P r.guard) syntax.rules
+  delays_from : (P : ℕ → Type 0) → DelaysAre P c → All (λ (r : WrittenRule). GuardDelays P r.guard) sections.rules
   delays_from P are =
-      pairs_from (RuleMeans syntax.states) (IsRuleLine) (λ (r : RuleLine). GuardDelays P r.guard) (λ (rule : Rule). TestDelays P (test_of rule.guard))
-      (λ l r means line delays. guard_delays_from syntax.states P l.guard (test_of r.guard) means.guard delays) syntax.rules c.rules read.resolves.rules is.each_rule are
+      pairs_from (RuleMeans sections.states) (IsRuleWithin) (λ (r : WrittenRule). GuardDelays P r.guard) (λ (rule : Rule). TestDelays P (test_of rule.guard))
+      (λ l r means line delays. guard_delays_from sections.states P l.guard (test_of r.guard) means.guard delays) sections.rules c.rules read.resolves.rules is.each_rule are
 
   pub controller_is : IsController c
   controller_is =
-      let nums : List Num = flat_map numbers (sayings syntax) in
+      let nums : List Num = flat_map numbers (sayings sections) in
       let den = read.within in
       let size : unsigned_abs c.den ≡ den.0 = ap unsigned_abs den.1 in
       let scale = den.2.scale in
       let from = scale.from in
       let to = scale.to in
       let common = is_least_common nums all_nums in
-      let states : length c.states ≡ length syntax.states = ap length read.resolves.states ∙ length-map syntax.states state_of in
-      let count : length c.rules ≡ length syntax.rules = pairs_length (RuleMeans syntax.states) syntax.rules c.rules read.resolves.rules in
+      let states : length c.states ≡ length sections.states = ap length read.resolves.states ∙ length-map sections.states state_of in
+      let count : length c.rules ≡ length sections.rules = pairs_length (RuleMeans sections.states) sections.rules c.rules read.resolves.rules in
       let few_states = is.states_to in
       let few_rules = is.rules_to in
-      let last = last_is syntax c read in
+      let last = last_is sections c read in
       let some = last.some in
-      let delays = rules_greatest 0 syntax.rules in
+      let delays = rules_greatest 0 sections.rules in
       let delay = read.resolves.delay_max in
-      let fits = All-weaker (IsSoundRule syntax.states) (λ (r : RuleLine). GuardDelays (λ n. n ≤ 8) r.guard) (λ r sound. fit_guard r.guard sound.fits) syntax.rules read.sound in
+      let fits = All-weaker (IsSoundRule sections.states) (λ (r : WrittenRule). GuardDelays (λ n. n ≤ 8) r.guard) (λ r sound. fit_guard r.guard sound.fits) sections.rules read.sound in
       let delay_to = delays.least 8 (omega arith) fits in
       record {
         states_to = omega arith;
         rules_from = omega arith;
         rules_to = omega arith;
         otherwise = ap (λ k. test_of (get_or c.rules (k - 1) no_rule).guard) count ∙ last.always;
-        each_rule = subst (λ k. All (IsRule k) c.rules) (sym states) (pairs_to (RuleMeans syntax.states) IsRuleLine (IsRule (length syntax.states)) (λ l r means line. rule_in syntax.states l r means line) syntax.rules c.rules read.resolves.rules is.each_rule);
-        each_lin = subst (λ k. LinsAre (IsLin k) c) (sym states) (lins_to syntax c read IsShort (IsLin (length syntax.states)) (carries_lins syntax.states) (text_from_limits IsShort (λ expr within. within.terms_to) syntax is));
-        each_num = nums_to syntax c read IsNum (text_nums syntax is);
+        each_rule = subst (λ k. All (IsRule k) c.rules) (sym states) (pairs_to (RuleMeans sections.states) IsRuleWithin (IsRule (length sections.states)) (λ l r means line. rule_in sections.states l r means line) sections.rules c.rules read.resolves.rules is.each_rule);
+        each_lin = subst (λ k. LinsAre (IsLin k) c) (sym states) (lins_to sections c read IsShort (IsLin (length sections.states)) (carries_lins sections.states) (text_from_limits IsShort (λ expr within. within.terms_to) sections is));
+        each_num = nums_to sections c read IsNum (text_nums sections is);
         den_from = subst (λ (z : ℤ). pos 1 ≤ℤ z) (sym den.1) (omega (arith, ints));
         den_to = subst (λ (z : ℤ). z ≤ℤ pos 1000000) (sym den.1) (omega (arith, ints));
-        den_common = den_is (least_common nums) (size ∙ den.2.is) (nums_to syntax c read (λ n. den_of n ∣ least_common nums) (text_from (λ n. den_of n ∣ least_common nums) syntax common.common));
-        den_least = λ m divides. subst (λ (k : ℕ). k ∣ m) (sym (size ∙ den.2.is)) (common.least m (text_to (λ n. den_of n ∣ m) syntax (nums_from syntax c read (λ n. den_of n ∣ m) divides)));
+        den_common = den_is (least_common nums) (size ∙ den.2.is) (nums_to sections c read (λ n. den_of n ∣ least_common nums) (text_from (λ n. den_of n ∣ least_common nums) sections common.common));
+        den_least = λ m divides. subst (λ (k : ℕ). k ∣ m) (sym (size ∙ den.2.is)) (common.least m (text_to (λ n. den_of n ∣ m) sections (nums_from sections c read (λ n. den_of n ∣ m) divides)));
         delay_to = omega arith;
-        delay_reached = subst (λ (g : ℕ). DelaysAre (λ k. k ≤ g) c) (sym delay) (delays_to (λ k. k ≤ rules_delay 0 syntax.rules) delays.reached);
+        delay_reached = subst (λ (g : ℕ). DelaysAre (λ k. k ≤ g) c) (sym delay) (delays_to (λ k. k ≤ rules_delay 0 sections.rules) delays.reached);
         delay_least = λ m within. let lower = delays.least m (omega arith) (delays_from (λ k. k ≤ m) within) in omega arith;
       }

@@ -62,6 +62,11 @@ crossed a b one two =
 
 -- ---- all numbers of a list
 
+-- the numbers of one list, and then those of another
+pub numbers-append : (s : Option ℕ) (xs ys : List Num) → with_numbers s (xs ++ ys) ≡ with_numbers (with_numbers s xs) ys
+unfolding with_numbers
+numbers-append s xs ys = fold-append with_number s xs ys
+
 pub record IsDen (nums : List Num) (d : ℕ) : Type 0 where
   pub is : d ≡ least_common nums
   pub scale : IsScale d

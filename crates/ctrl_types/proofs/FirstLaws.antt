@@ -7,7 +7,7 @@ use Rattle.weighing.specs.First.{and_then, first}
 use Rattle.weighing.proofs.Events.{each_passed, first-append, first_is_first}
 use Rattle.whole.specs.declared.answers.Refusal.{Refusal}
 use Rattle.ctrl_syntax.specs.declared.syntax.StateLine.{StateLine}
-use Rattle.ctrl_syntax.specs.declared.syntax.Syntax.{Syntax}
+use Rattle.ctrl_syntax.specs.Sections.{Sections}
 use Rattle.ctrl_types.specs.declared.breaches.Breach.{Breach}
 use Rattle.ctrl_types.specs.declared.breaches.Breach.TheVariants.{Reserved, Unknown, Kinds, Bounds, Twice, Otherwise, Delay, Denominators, Count}
 use Rattle.ctrl_types.specs.Resolving.{demand, on_line}
@@ -155,26 +155,26 @@ module _ (states : List StateLine) (x : Statement) where
 
 -- ---- all statements
 
-pub first_broken : (syntax : Syntax) (r : Refusal) → first (judged syntax.states) (statements syntax) ≡ Err r → IsFirstBroken syntax r
-first_broken syntax r e =
-    let is = first_is_first (judged syntax.states) (statements syntax) r e in
-    let broken = broken_is syntax.states is.stop r is.answer in
+pub first_broken : (sections : Sections) (r : Refusal) → first (judged sections.states) (statements sections) ≡ Err r → IsFirstBroken sections r
+first_broken sections r e =
+    let is = first_is_first (judged sections.states) (statements sections) r e in
+    let broken = broken_is sections.states is.stop r is.answer in
     record {
       before = is.before;
       stop = is.stop;
       after = is.after;
       parts = is.parts;
-      whole = All-weaker (λ x. judged syntax.states x ≡ Ok tt) (IsWhole syntax.states) (λ x passed. whole_is syntax.states x passed) is.before is.passed;
+      whole = All-weaker (λ x. judged sections.states x ≡ Ok tt) (IsWhole sections.states) (λ x passed. whole_is sections.states x passed) is.before is.passed;
       breach = broken.breach;
       broken = broken.broken;
       least = broken.least;
       refusal = broken.refusal;
     }
 
-pub unbroken : (syntax : Syntax) → first (judged syntax.states) (statements syntax) ≡ Ok tt → IsUnbroken syntax
-unbroken syntax e =
-    All-weaker (λ x. judged syntax.states x ≡ Ok tt) (IsWhole syntax.states) (λ x passed. whole_is syntax.states x passed) (statements syntax)
-    (each_passed (judged syntax.states) (statements syntax) e)
+pub unbroken : (sections : Sections) → first (judged sections.states) (statements sections) ≡ Ok tt → IsUnbroken sections
+unbroken sections e =
+    All-weaker (λ x. judged sections.states x ≡ Ok tt) (IsWhole sections.states) (λ x passed. whole_is sections.states x passed) (statements sections)
+    (each_passed (judged sections.states) (statements sections) e)
 
 all_whole : (states : List StateLine) (xs : List Statement) → All (IsWhole states) xs → first (judged states) xs ≡ Ok tt
 all_whole states [] each = refl
@@ -182,12 +182,12 @@ all_whole states (x ∷ xs) each =
     let here : judged states x ≡ Ok tt = ap (on_line (line_of x.says)) (again_whole states x breaches (All-head (IsWhole states) x xs each)) in
     ap (λ t. and_then t (first (judged states) xs)) here ∙ all_whole states xs (All-tail (IsWhole states) x xs each)
 
-pub unbroken_again : (syntax : Syntax) → IsUnbroken syntax → first (judged syntax.states) (statements syntax) ≡ Ok tt
-unbroken_again syntax whole = all_whole syntax.states (statements syntax) whole
+pub unbroken_again : (sections : Sections) → IsUnbroken sections → first (judged sections.states) (statements sections) ≡ Ok tt
+unbroken_again sections whole = all_whole sections.states (statements sections) whole
 
-pub broken_again : (syntax : Syntax) (r : Refusal) → IsFirstBroken syntax r → first (judged syntax.states) (statements syntax) ≡ Err r
-broken_again syntax r is =
-    let states : List StateLine = syntax.states in
+pub broken_again : (sections : Sections) (r : Refusal) → IsFirstBroken sections r → first (judged sections.states) (statements sections) ≡ Err r
+broken_again sections r is =
+    let states : List StateLine = sections.states in
     let here : judged states is.stop ≡ Err r = judged_again states is.stop is.breach is.broken is.least ∙ ap (λ s. Err s) (sym is.refusal) in
     ap (first (judged states)) is.parts
     ∙ first-append (judged states) is.before (is.stop ∷ is.after)
@@ -195,8 +195,14 @@ broken_again syntax r is =
     ∙ ap (λ t. and_then t (first (judged states) is.after)) here
 
 -- a text has one first broken rule at most
-pub first_broken_is_one : (syntax : Syntax) (r s : Refusal) → IsFirstBroken syntax r → IsFirstBroken syntax s → r ≡ s
-first_broken_is_one syntax r s one two =
-    let a = broken_again syntax r one in
-    let b = broken_again syntax s two in
+pub first_broken_is_one : (sections : Sections) (r s : Refusal) → IsFirstBroken sections r → IsFirstBroken sections s → r ≡ s
+first_broken_is_one sections r s one two =
+    let a = broken_again sections r one in
+    let b = broken_again sections s two in
     cc
+
+pub never_both : (sections : Sections) (r : Refusal) → IsFirstBroken sections r → IsUnbroken sections → ⊥
+never_both sections r broken whole =
+    let a = broken_again sections r broken in
+    let b = unbroken_again sections whole in
+    absurd (cc)

@@ -1,6 +1,5 @@
 -- A guard that is resolved, and what is asked of its rule.
 use Rattle.std.proofs.Common.{◌≡◌, ℕ, Bool, true, false, ◌||◌, Option, Some, List, [], ◌++◌, refl, sym, ap, subst, ◌∙◌}
-use Rattle.std.proofs.lemmas.List.Sums.{fold-append}
 use Rattle.weighing.specs.declared.scales.Num.{Num}
 use Rattle.weighing.specs.declared.weighings.Rel5.{Rel5}
 use Rattle.condition_syntax.specs.Trees as conditions
@@ -13,12 +12,13 @@ use Rattle.ctrl_types.specs.declared.surveys.Survey.{Survey}
 use Rattle.ctrl_types.specs.Tests as tests
 use Rattle.ctrl_types.specs.Tests.{Test}
 use Rattle.ctrl_types.specs.Names.{lin_of, has_unknown}
-use Rattle.ctrl_types.specs.Denominators.{with_number, with_numbers}
+use Rattle.ctrl_types.specs.Denominators.{with_numbers}
 use Rattle.ctrl_types.specs.Resolved as resolved
 use Rattle.ctrl_types.specs.Resolved.{Means, greatest_delay}
 use Rattle.ctrl_types.specs.Resolving.{demand, gate_by, comparison_by, lin_numbers, with_comparison, with_delay, with_lin}
 use Rattle.ctrl_types.specs.Statements.{any_comparison, any_delay, condition_numbers, coefs, is_unfit, mixed_sides, unknown_sides, rows_of}
 use Rattle.ctrl_types.proofs.Agreement.{Agrees, fine, agrees_then, agrees_map, agrees_wanted, demand-or}
+use Rattle.ctrl_types.proofs.DenominatorLaws.{numbers-append}
 use Rattle.ctrl_types.proofs.NameLaws.{unknown_is, lin_is_found, found_numbers, sides_mix}
 
 -- what a condition comes to, behind what came before
@@ -36,10 +36,6 @@ or_false false = refl
 or_assoc : (a b c : Bool) → ((a || b) || c) ≡ (a || (b || c))
 or_assoc true b c = refl
 or_assoc false b c = refl
-
-numbers-append : (s : Option ℕ) (xs ys : List Num) → with_numbers (with_numbers s xs) ys ≡ with_numbers s (xs ++ ys)
-unfolding with_numbers
-numbers-append s xs ys = sym (fold-append with_number s xs ys)
 
 no_numbers : (s : Option ℕ) → s ≡ with_numbers s []
 unfolding with_numbers
@@ -71,7 +67,7 @@ both_unfit states c rest s t u one two =
 both_den : (states : List StateLine) (c rest : Condition) (s : Survey) (t u : Test × Survey) → IsSeen states c s t → IsSeen states rest t.1 u
     → u.1.den ≡ with_numbers s.den (condition_numbers c ++ condition_numbers rest)
 both_den states c rest s t u one two =
-    two.den ∙ ap (λ d. with_numbers d (condition_numbers rest)) one.den ∙ numbers-append s.den (condition_numbers c) (condition_numbers rest)
+    two.den ∙ ap (λ d. with_numbers d (condition_numbers rest)) one.den ∙ sym (numbers-append s.den (condition_numbers c) (condition_numbers rest))
 
 comparison_agrees : (states : List StateLine) (left right : Expr) (rel : Rel5) (s : Survey)
     → Agrees (IsSeen states (conditions.comparison left rel right) s) (comparison_by states left rel right s) (demand (unknown_sides states left right) Unknown)
@@ -95,7 +91,7 @@ comparison_agrees states left right rel s =
           delay_max = refl;
           den = ap (λ (ns : List Num). with_numbers (with_numbers s.den ns) (lin_numbers y)) (found_numbers lefts)
               ∙ ap (λ (ns : List Num). with_numbers (with_numbers s.den (coefs left.terms)) ns) (found_numbers rights)
-              ∙ numbers-append s.den (coefs left.terms) (coefs right.terms);
+              ∙ sym (numbers-append s.den (coefs left.terms) (coefs right.terms));
         }
 
 delay_seen : (states : List StateLine) (q : Num) (s : Survey) → IsSeen states (conditions.delay q) s (tests.delay (rows_of q), with_delay q s)

@@ -5,7 +5,9 @@ mod LineLoops
 pub mod Agreement
 mod NameLaws
 mod GuardLaws
+mod ScopeLaws
 mod StateLaws
+mod SectionLimits
 mod StatementLaws
 mod TextLaws
 pub mod FirstLaws
@@ -13,3 +15,4 @@ mod MeaningLaws
 mod LimitLaws
 mod ControllerLaws
 mod ResolveLaws
+pub mod SameController

@@ -1,27 +1,25 @@
 -- The controller that is resolved is within its limits.
 use Rattle.std.proofs.Common.{◌≡◌, ℕ, zero, suc, ◌<◌, Bool, false, Option, Some, None, List, [], ◌∷◌, ◌++◌, length, map, get_or, refl, sym, subst, arith}
 use Rattle.std.specs.Prelude.{All, slice_get}
-use Rattle.std.specs.List.{flat_map}
+use Rattle.std.specs.List.{flat_map, AllZip}
 use Rattle.std.proofs.lemmas.List.Elements.{All-nil, All-cons, All-head, All-tail, All-append, All-map}
 use Rattle.weighing.specs.declared.scales.Num.{Num}
 use Rattle.condition_syntax.specs.Trees as conditions
-use Rattle.condition_syntax.specs.Trees.{Condition, condition_of}
-use Rattle.condition_syntax.specs.declared.conditions.Cond.{Cond}
+use Rattle.condition_syntax.specs.Trees.{Condition}
 use Rattle.condition_syntax.specs.declared.expressions.Expr.{Expr}
 use Rattle.condition_syntax.specs.declared.expressions.ETerm.{ETerm}
-use Rattle.ctrl_syntax.specs.Limits.{CondExprs}
+use Rattle.condition_syntax.specs.Limits.{EachExpr}
 use Rattle.ctrl_syntax.specs.declared.syntax.StateLine.{StateLine}
 use Rattle.ctrl_syntax.specs.declared.syntax.SetLine.{SetLine}
-use Rattle.ctrl_syntax.specs.declared.syntax.RuleLine.{RuleLine}
 use Rattle.ctrl_syntax.specs.declared.syntax.RateLine.{RateLine}
-use Rattle.ctrl_syntax.specs.declared.syntax.Syntax.{Syntax}
+use Rattle.ctrl_syntax.specs.Sections.{Rule as WrittenRule, Sections}
 use Rattle.ctrl_types.specs.declared.controllers.Controller.{Controller}
 use Rattle.ctrl_types.specs.declared.controllers.Rule.{Rule}
 use Rattle.ctrl_types.specs.declared.controllers.State.{State}
 use Rattle.ctrl_types.specs.declared.expressions.Lin.{Lin}
 use Rattle.ctrl_types.specs.declared.expressions.LinTerm.{LinTerm}
 use Rattle.ctrl_types.specs.Limits.{LinsAre, NumsAre, OptionalLin, RuleLins}
-use Rattle.ctrl_types.specs.Resolved.{EachPair, RateMeans, RuleMeans}
+use Rattle.ctrl_types.specs.Resolved.{RateMeans, RuleMeans}
 use Rattle.ctrl_types.specs.Resolving.{SeenRule, controller_seen, rule_seen, state_of}
 use Rattle.ctrl_types.specs.Statements.{Saying, state, rule, assignment, window, rate, coefs, condition_numbers, guard_numbers, is_empty, numbers, rate_sayings, rule_sayings, sayings, set_sayings, state_sayings}
 use Rattle.ctrl_types.proofs.NameLaws.{AreFound, coefs_are, found_length, lin_is_found}
@@ -45,34 +43,34 @@ all_from_map P f (x ∷ xs) all = All-cons (λ y. P (f y)) x xs (All-head P (f x
 
 -- ---- rules, pair by pair
 
-module _ (R : RuleLine → SeenRule → Type 0) where
-  pub pairs_length : (lines : List RuleLine) (rules : List Rule) → EachPair R lines (map rule_seen rules) → length rules ≡ length lines
+module _ (R : WrittenRule → SeenRule → Type 0) where
+  pub pairs_length : (lines : List WrittenRule) (rules : List Rule) → AllZip R lines (map rule_seen rules) → length rules ≡ length lines
   pairs_length [] [] pairs = refl
   pairs_length [] (r ∷ rules) pairs = absurd pairs
   pairs_length (l ∷ lines) [] pairs = absurd pairs
   pairs_length (l ∷ lines) (r ∷ rules) pairs = let rest = pairs_length lines rules pairs.1 in omega arith
 
-  pub pairs_to : (P : RuleLine → Type 0) (T : Rule → Type 0) → ((l : RuleLine) (r : Rule) → R l (rule_seen r) → P l → T r) → (lines : List RuleLine) (rules : List Rule)
-      → EachPair R lines (map rule_seen rules) → All P lines → All T rules
+  pub pairs_to : (P : WrittenRule → Type 0) (T : Rule → Type 0) → ((l : WrittenRule) (r : Rule) → R l (rule_seen r) → P l → T r) → (lines : List WrittenRule) (rules : List Rule)
+      → AllZip R lines (map rule_seen rules) → All P lines → All T rules
   pairs_to P T to [] [] pairs all = All-nil T
   pairs_to P T to [] (r ∷ rules) pairs all = absurd pairs
   pairs_to P T to (l ∷ lines) [] pairs all = absurd pairs
   pairs_to P T to (l ∷ lines) (r ∷ rules) pairs all = All-cons T r rules (to l r pairs.0 (All-head P l lines all)) (pairs_to P T to lines rules pairs.1 (All-tail P l lines all))
 
-  pub pairs_from : (P S : RuleLine → Type 0) (T : Rule → Type 0) → ((l : RuleLine) (r : Rule) → R l (rule_seen r) → P l → T r → S l) → (lines : List RuleLine) (rules : List Rule)
-      → EachPair R lines (map rule_seen rules) → All P lines → All T rules → All S lines
+  pub pairs_from : (P S : WrittenRule → Type 0) (T : Rule → Type 0) → ((l : WrittenRule) (r : Rule) → R l (rule_seen r) → P l → T r → S l) → (lines : List WrittenRule) (rules : List Rule)
+      → AllZip R lines (map rule_seen rules) → All P lines → All T rules → All S lines
   pairs_from P S T from [] [] pairs all are = All-nil S
   pairs_from P S T from [] (r ∷ rules) pairs all are = absurd pairs
   pairs_from P S T from (l ∷ lines) [] pairs all are = absurd pairs
   pairs_from P S T from (l ∷ lines) (r ∷ rules) pairs all are =
       All-cons S l lines (from l r pairs.0 (All-head P l lines all) (All-head T r rules are)) (pairs_from P S T from lines rules pairs.1 (All-tail P l lines all) (All-tail T r rules are))
 
-  pub pair_at : (lines : List RuleLine) (rules : List Rule) (k : ℕ) (d : Rule) (l : RuleLine) → EachPair R lines (map rule_seen rules) → slice_get lines k ≡ Some l
+  pub pair_at : (lines : List WrittenRule) (rules : List Rule) (k : ℕ) (d : Rule) (l : WrittenRule) → AllZip R lines (map rule_seen rules) → slice_get lines k ≡ Some l
       → (k < length lines) × R l (rule_seen (get_or rules k d))
   pair_at [] [] k d l pairs e = absurd (cc)
   pair_at [] (r ∷ rules) k d l pairs e = absurd pairs
   pair_at (m ∷ lines) [] k d l pairs e = absurd pairs
-  pair_at (m ∷ lines) (r ∷ rules) zero d l pairs e = let same : m ≡ l = cc in (omega arith, subst (λ (x : RuleLine). R x (rule_seen r)) same pairs.0)
+  pair_at (m ∷ lines) (r ∷ rules) zero d l pairs e = let same : m ≡ l = cc in (omega arith, subst (λ (x : WrittenRule). R x (rule_seen r)) same pairs.0)
   pair_at (m ∷ lines) (r ∷ rules) (suc k) d l pairs e = let rest = pair_at lines rules k d l pairs.1 e in let inside = rest.0 in (omega arith, rest.1)
 
 -- ---- expressions of a text
@@ -81,37 +79,37 @@ abbrev pub RateExpr : (Expr → Type 0) → Option RateLine → Type 0
 RateExpr E None = Unit {0}
 RateExpr E (Some r) = E r.expr
 
-pub record TextExprs (E : Expr → Type 0) (syntax : Syntax) : Type 0 where
-  pub rules : All (RuleExprs E) syntax.rules
-  pub window : E syntax.window
-  pub rate : RateExpr E syntax.rate
+pub record TextExprs (E : Expr → Type 0) (sections : Sections) : Type 0 where
+  pub rules : All (RuleExprs E) sections.rules
+  pub window : E sections.window
+  pub rate : RateExpr E sections.rate
 
-module _ (syntax : Syntax) (c : Controller) (read : IsRead syntax (controller_seen c)) where
-  module _ (E : Expr → Type 0) (Q : Lin → Type 0) (carries : Carries syntax.states E Q) where
-    rate_lin : (r : Option RateLine) (lin : Option Lin) → RateMeans syntax.states r lin → RateExpr E r → OptionalLin Q lin
+module _ (sections : Sections) (c : Controller) (read : IsRead sections (controller_seen c)) where
+  module _ (E : Expr → Type 0) (Q : Lin → Type 0) (carries : Carries sections.states E Q) where
+    rate_lin : (r : Option RateLine) (lin : Option Lin) → RateMeans sections.states r lin → RateExpr E r → OptionalLin Q lin
     rate_lin None None means are = tt
     rate_lin None (Some lin) means are = absurd means
     rate_lin (Some r) None means are = absurd means
     rate_lin (Some r) (Some lin) means are = carries.to false r.expr lin means are
 
-    rate_expr : (r : Option RateLine) (lin : Option Lin) → RateMeans syntax.states r lin → OptionalLin Q lin → RateExpr E r
+    rate_expr : (r : Option RateLine) (lin : Option Lin) → RateMeans sections.states r lin → OptionalLin Q lin → RateExpr E r
     rate_expr None None means are = tt
     rate_expr None (Some lin) means are = tt
     rate_expr (Some r) None means are = absurd means
     rate_expr (Some r) (Some lin) means are = carries.from false r.expr lin means are
 
-    pub lins_to : TextExprs E syntax → LinsAre Q c
+    pub lins_to : TextExprs E sections → LinsAre Q c
     lins_to are = record {
-      rules = pairs_to (RuleMeans syntax.states) (RuleExprs E) (RuleLins Q) (λ l r means exprs. rule_lins syntax.states E Q carries l r means exprs) syntax.rules c.rules read.resolves.rules are.rules;
-      window = carries.to false syntax.window c.window read.resolves.window are.window;
-      rate = rate_lin syntax.rate c.rate read.resolves.rate are.rate;
+      rules = pairs_to (RuleMeans sections.states) (RuleExprs E) (RuleLins Q) (λ l r means exprs. rule_lins sections.states E Q carries l r means exprs) sections.rules c.rules read.resolves.rules are.rules;
+      window = carries.to false sections.window c.window read.resolves.window are.window;
+      rate = rate_lin sections.rate c.rate read.resolves.rate are.rate;
     }
 
-    exprs_from : LinsAre Q c → TextExprs E syntax
+    exprs_from : LinsAre Q c → TextExprs E sections
     exprs_from are = record {
-      rules = pairs_from (RuleMeans syntax.states) (IsSoundRule syntax.states) (RuleExprs E) (RuleLins Q) (λ l r means sound lins. rule_exprs syntax.states E Q carries l r means sound lins) syntax.rules c.rules read.resolves.rules read.sound are.rules;
-      window = carries.from false syntax.window c.window read.resolves.window are.window;
-      rate = rate_expr syntax.rate c.rate read.resolves.rate are.rate;
+      rules = pairs_from (RuleMeans sections.states) (IsSoundRule sections.states) (RuleExprs E) (RuleLins Q) (λ l r means sound lins. rule_exprs sections.states E Q carries l r means sound lins) sections.rules c.rules read.resolves.rules read.sound are.rules;
+      window = carries.from false sections.window c.window read.resolves.window are.window;
+      rate = rate_expr sections.rate c.rate read.resolves.rate are.rate;
     }
 
 -- ---- numbers
@@ -142,21 +140,21 @@ carries_coefs states P = record {
 abbrev pub BothAre : (Num → Type 0) → StateLine → Type 0
 BothAre P s = P s.lo × P s.hi
 
-pub record TextNums (P : Num → Type 0) (syntax : Syntax) : Type 0 where
-  pub states : All (BothAre P) syntax.states
-  pub exprs : TextExprs (CoefsAre P) syntax
+pub record TextNums (P : Num → Type 0) (sections : Sections) : Type 0 where
+  pub states : All (BothAre P) sections.states
+  pub exprs : TextExprs (CoefsAre P) sections
 
-module _ (syntax : Syntax) (c : Controller) (read : IsRead syntax (controller_seen c)) (P : Num → Type 0) where
-  pub nums_to : TextNums P syntax → NumsAre P c
+module _ (sections : Sections) (c : Controller) (read : IsRead sections (controller_seen c)) (P : Num → Type 0) where
+  pub nums_to : TextNums P sections → NumsAre P c
   nums_to are = record {
-    states = subst (All (λ (s : State). P s.lo × P s.hi)) (sym read.resolves.states) (All-map (λ (s : State). P s.lo × P s.hi) state_of syntax.states are.states);
-    lins = lins_to syntax c read (CoefsAre P) (TermsAre P) (carries_coefs syntax.states P) are.exprs;
+    states = subst (All (λ (s : State). P s.lo × P s.hi)) (sym read.resolves.states) (All-map (λ (s : State). P s.lo × P s.hi) state_of sections.states are.states);
+    lins = lins_to sections c read (CoefsAre P) (TermsAre P) (carries_coefs sections.states P) are.exprs;
   }
 
-  pub nums_from : NumsAre P c → TextNums P syntax
+  pub nums_from : NumsAre P c → TextNums P sections
   nums_from are = record {
-    states = all_from_map (λ (s : State). P s.lo × P s.hi) state_of syntax.states (subst (All (λ (s : State). P s.lo × P s.hi)) read.resolves.states are.states);
-    exprs = exprs_from syntax c read (CoefsAre P) (TermsAre P) (carries_coefs syntax.states P) are.lins;
+    states = all_from_map (λ (s : State). P s.lo × P s.hi) state_of sections.states (subst (All (λ (s : State). P s.lo × P s.hi)) read.resolves.states are.states);
+    exprs = exprs_from sections c read (CoefsAre P) (TermsAre P) (carries_coefs sections.states P) are.lins;
   }
 
 -- ---- the numbers of a text as one list
@@ -202,7 +200,7 @@ module _ (P : Num → Type 0) where
       All-cons (λ (l : SetLine). CoefsAre P l.expr) s sets (All-head SaysNums (assignment earlier s) (set_sayings (earlier ++ s ∷ []) sets) all)
       (sets_from (earlier ++ s ∷ []) sets (All-tail SaysNums (assignment earlier s) (set_sayings (earlier ++ s ∷ []) sets) all))
 
-  cond_to : (c : Condition) → CondExprs (CoefsAre P) c → All P (condition_numbers c)
+  cond_to : (c : Condition) → EachExpr (CoefsAre P) c → All P (condition_numbers c)
   cond_to conditions.always are = All-nil P
   cond_to conditions.never are = All-nil P
   cond_to (conditions.comparison left rel right) are = All-append P (coefs left.terms) (coefs right.terms) are.0 are.1
@@ -213,7 +211,7 @@ module _ (P : Num → Type 0) where
   cond_to conditions.end_of_any are = All-nil P
   cond_to (conditions.any_of c rest) are = All-append P (condition_numbers c) (condition_numbers rest) (cond_to c are.0) (cond_to rest are.1)
 
-  cond_from : (c : Condition) → All P (condition_numbers c) → CondExprs (CoefsAre P) c
+  cond_from : (c : Condition) → All P (condition_numbers c) → EachExpr (CoefsAre P) c
   cond_from conditions.always all = tt
   cond_from conditions.never all = tt
   cond_from (conditions.comparison left rel right) all = (all_left P (coefs left.terms) (coefs right.terms) all, all_right P (coefs left.terms) (coefs right.terms) all)
@@ -224,22 +222,22 @@ module _ (P : Num → Type 0) where
   cond_from conditions.end_of_any all = tt
   cond_from (conditions.any_of c rest) all = (cond_from c (all_left P (condition_numbers c) (condition_numbers rest) all), cond_from rest (all_right P (condition_numbers c) (condition_numbers rest) all))
 
-  guard_to : (g : Option Cond) → GuardExprs (CoefsAre P) g → All P (guard_numbers g)
+  guard_to : (g : Option Condition) → GuardExprs (CoefsAre P) g → All P (guard_numbers g)
   guard_to None are = All-nil P
-  guard_to (Some c) are = cond_to (condition_of c) are
+  guard_to (Some c) are = cond_to c are
 
-  guard_from : (g : Option Cond) → All P (guard_numbers g) → GuardExprs (CoefsAre P) g
+  guard_from : (g : Option Condition) → All P (guard_numbers g) → GuardExprs (CoefsAre P) g
   guard_from None all = tt
-  guard_from (Some c) all = cond_from (condition_of c) all
+  guard_from (Some c) all = cond_from c all
 
-  rules_to : (rules : List RuleLine) → All (RuleExprs (CoefsAre P)) rules → All SaysNums (rule_sayings rules)
+  rules_to : (rules : List WrittenRule) → All (RuleExprs (CoefsAre P)) rules → All SaysNums (rule_sayings rules)
   rules_to [] all = All-nil SaysNums
   rules_to (r ∷ rules) all =
       let here = All-head (RuleExprs (CoefsAre P)) r rules all in
       All-cons SaysNums (rule (is_empty rules) r) (set_sayings [] r.sets ++ rule_sayings rules) (guard_to r.guard here.guard)
       (All-append SaysNums (set_sayings [] r.sets) (rule_sayings rules) (sets_to [] r.sets here.sets) (rules_to rules (All-tail (RuleExprs (CoefsAre P)) r rules all)))
 
-  rules_from : (rules : List RuleLine) → All SaysNums (rule_sayings rules) → All (RuleExprs (CoefsAre P)) rules
+  rules_from : (rules : List WrittenRule) → All SaysNums (rule_sayings rules) → All (RuleExprs (CoefsAre P)) rules
   rules_from [] all = All-nil (RuleExprs (CoefsAre P))
   rules_from (r ∷ rules) all =
       let later = All-tail SaysNums (rule (is_empty rules) r) (set_sayings [] r.sets ++ rule_sayings rules) all in
@@ -258,26 +256,26 @@ module _ (P : Num → Type 0) where
   rate_from None all = tt
   rate_from (Some r) all = All-head SaysNums (rate r) [] all
 
-  pub text_to : (syntax : Syntax) → TextNums P syntax → All P (flat_map numbers (sayings syntax))
+  pub text_to : (sections : Sections) → TextNums P sections → All P (flat_map numbers (sayings sections))
   unfolding sayings
-  text_to syntax are =
-      let w : Saying = window syntax.rules syntax.window syntax.window_line in
-      flat_to (sayings syntax) (All-append SaysNums (state_sayings [] syntax.states) (rule_sayings syntax.rules ++ (w ∷ rate_sayings syntax.rate)) (states_to [] syntax.states are.states)
-      (All-append SaysNums (rule_sayings syntax.rules) (w ∷ rate_sayings syntax.rate) (rules_to syntax.rules are.exprs.rules)
-      (All-cons SaysNums w (rate_sayings syntax.rate) are.exprs.window (rate_to syntax.rate are.exprs.rate))))
+  text_to sections are =
+      let w : Saying = window sections.rules sections.window sections.window_line in
+      flat_to (sayings sections) (All-append SaysNums (state_sayings [] sections.states) (rule_sayings sections.rules ++ (w ∷ rate_sayings sections.rate)) (states_to [] sections.states are.states)
+      (All-append SaysNums (rule_sayings sections.rules) (w ∷ rate_sayings sections.rate) (rules_to sections.rules are.exprs.rules)
+      (All-cons SaysNums w (rate_sayings sections.rate) are.exprs.window (rate_to sections.rate are.exprs.rate))))
 
-  pub text_from : (syntax : Syntax) → All P (flat_map numbers (sayings syntax)) → TextNums P syntax
+  pub text_from : (sections : Sections) → All P (flat_map numbers (sayings sections)) → TextNums P sections
   unfolding sayings
-  text_from syntax all =
-      let w : Saying = window syntax.rules syntax.window syntax.window_line in
-      let says = flat_from (sayings syntax) all in
-      let later = all_right SaysNums (state_sayings [] syntax.states) (rule_sayings syntax.rules ++ (w ∷ rate_sayings syntax.rate)) says in
-      let ends = all_right SaysNums (rule_sayings syntax.rules) (w ∷ rate_sayings syntax.rate) later in
+  text_from sections all =
+      let w : Saying = window sections.rules sections.window sections.window_line in
+      let says = flat_from (sayings sections) all in
+      let later = all_right SaysNums (state_sayings [] sections.states) (rule_sayings sections.rules ++ (w ∷ rate_sayings sections.rate)) says in
+      let ends = all_right SaysNums (rule_sayings sections.rules) (w ∷ rate_sayings sections.rate) later in
       record {
-        states = states_from [] syntax.states (all_left SaysNums (state_sayings [] syntax.states) (rule_sayings syntax.rules ++ (w ∷ rate_sayings syntax.rate)) says);
+        states = states_from [] sections.states (all_left SaysNums (state_sayings [] sections.states) (rule_sayings sections.rules ++ (w ∷ rate_sayings sections.rate)) says);
         exprs = record {
-          rules = rules_from syntax.rules (all_left SaysNums (rule_sayings syntax.rules) (w ∷ rate_sayings syntax.rate) later);
-          window = All-head SaysNums w (rate_sayings syntax.rate) ends;
-          rate = rate_from syntax.rate (All-tail SaysNums w (rate_sayings syntax.rate) ends);
+          rules = rules_from sections.rules (all_left SaysNums (rule_sayings sections.rules) (w ∷ rate_sayings sections.rate) later);
+          window = All-head SaysNums w (rate_sayings sections.rate) ends;
+          rate = rate_from sections.rate (All-tail SaysNums w (rate_sayings sections.rate) ends);
         };
       }

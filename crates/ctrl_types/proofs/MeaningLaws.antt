@@ -5,20 +5,19 @@ use Rattle.std.specs.List.{list_any, find}
 use Rattle.std.specs.Option.{option_and_then}
 use Rattle.std.proofs.lemmas.List.Elements.{All-nil, All-cons, All-head, All-tail}
 use Rattle.condition_syntax.specs.Trees as conditions
-use Rattle.condition_syntax.specs.Trees.{Condition, condition_of}
-use Rattle.condition_syntax.specs.declared.conditions.Cond.{Cond}
+use Rattle.condition_syntax.specs.Trees.{Condition}
 use Rattle.condition_syntax.specs.declared.expressions.Expr.{Expr}
-use Rattle.ctrl_syntax.specs.Limits.{CondExprs, CondDelays}
+use Rattle.condition_syntax.specs.Limits.{EachExpr, EachDelay}
 use Rattle.ctrl_syntax.specs.declared.syntax.StateLine.{StateLine}
 use Rattle.ctrl_syntax.specs.declared.syntax.SetLine.{SetLine}
-use Rattle.ctrl_syntax.specs.declared.syntax.RuleLine.{RuleLine}
+use Rattle.ctrl_syntax.specs.Sections.{Rule as WrittenRule}
 use Rattle.ctrl_types.specs.declared.controllers.Rule.{Rule}
 use Rattle.ctrl_types.specs.declared.expressions.Lin.{Lin}
 use Rattle.ctrl_types.specs.Tests.{Test, test_of, comparisons}
 use Rattle.ctrl_types.specs.Limits.{OptionalLin, RuleLins, TestDelays, TestLins}
 use Rattle.ctrl_types.specs.Names.{lin_of, state_named}
 use Rattle.ctrl_types.specs.Resolved as resolved
-use Rattle.ctrl_types.specs.Resolved.{EachPair, GuardMeans, Means, RuleMeans, greatest_delay, guard_delay, place_of, rules_delay}
+use Rattle.ctrl_types.specs.Resolved.{GuardMeans, Means, RuleMeans, greatest_delay, guard_delay, place_of, rules_delay}
 use Rattle.ctrl_types.specs.Resolving.{rule_seen}
 use Rattle.ctrl_types.specs.Statements.{rows_of, sets_name}
 use Rattle.ctrl_types.proofs.StateLaws.{AreResolved, state_at, name_again}
@@ -31,21 +30,21 @@ pub record Carries (states : List StateLine) (E : Expr → Type 0) (Q : Lin → 
   pub to : (signals : Bool) (expr : Expr) (lin : Lin) → lin_of states signals expr ≡ Some lin → E expr → Q lin
   pub from : (signals : Bool) (expr : Expr) (lin : Lin) → lin_of states signals expr ≡ Some lin → Q lin → E expr
 
-abbrev pub GuardExprs : (Expr → Type 0) → Option Cond → Type 0
+abbrev pub GuardExprs : (Expr → Type 0) → Option Condition → Type 0
 GuardExprs E None = Unit {0}
-GuardExprs E (Some c) = CondExprs E (condition_of c)
+GuardExprs E (Some c) = EachExpr E c
 
 -- each expression of a rule's line and of its assignments is such a one
-pub record RuleExprs (E : Expr → Type 0) (r : RuleLine) : Type 0 where
+pub record RuleExprs (E : Expr → Type 0) (r : WrittenRule) : Type 0 where
   pub guard : GuardExprs E r.guard
   pub sets : All (λ (l : SetLine). E l.expr) r.sets
 
-abbrev pub GuardDelays : (ℕ → Type 0) → Option Cond → Type 0
+abbrev pub GuardDelays : (ℕ → Type 0) → Option Condition → Type 0
 GuardDelays P None = Unit {0}
-GuardDelays P (Some c) = CondDelays (λ q. P (rows_of q)) (condition_of c)
+GuardDelays P (Some c) = EachDelay (λ q. P (rows_of q)) c
 
 module _ (states : List StateLine) (E : Expr → Type 0) (Q : Lin → Type 0) (carries : Carries states E Q) where
-  test_lins : {c : Condition} {t : Test} → Means states c t → CondExprs E c → TestLins Q t
+  test_lins : {c : Condition} {t : Test} → Means states c t → EachExpr E c → TestLins Q t
   test_lins resolved.always are = tt
   test_lins resolved.never are = tt
   test_lins (resolved.comparison {left} {right} {x} {y} rel one two) are = (carries.to true left x one are.0, carries.to true right y two are.1)
@@ -56,7 +55,7 @@ module _ (states : List StateLine) (E : Expr → Type 0) (Q : Lin → Type 0) (c
   test_lins resolved.end_of_any are = tt
   test_lins (resolved.any_of means rest) are = (test_lins means are.0, test_lins rest are.1)
 
-  cond_exprs : {c : Condition} {t : Test} → Means states c t → TestLins Q t → CondExprs E c
+  cond_exprs : {c : Condition} {t : Test} → Means states c t → TestLins Q t → EachExpr E c
   cond_exprs resolved.always are = tt
   cond_exprs resolved.never are = tt
   cond_exprs (resolved.comparison {left} {right} {x} {y} rel one two) are = (carries.from true left x one are.0, carries.from true right y two are.1)
@@ -69,11 +68,11 @@ module _ (states : List StateLine) (E : Expr → Type 0) (Q : Lin → Type 0) (c
 
   -- ---- guards
 
-  guard_lins : (g : Option Cond) (t : Test) → GuardMeans states g t → GuardExprs E g → TestLins Q t
+  guard_lins : (g : Option Condition) (t : Test) → GuardMeans states g t → GuardExprs E g → TestLins Q t
   guard_lins None t means are = subst (TestLins Q) (sym means) tt
   guard_lins (Some c) t means are = test_lins means are
 
-  guard_exprs : (g : Option Cond) (t : Test) → GuardMeans states g t → TestLins Q t → GuardExprs E g
+  guard_exprs : (g : Option Condition) (t : Test) → GuardMeans states g t → TestLins Q t → GuardExprs E g
   guard_exprs None t means are = tt
   guard_exprs (Some c) t means are = cond_exprs means are
 
@@ -132,13 +131,13 @@ module _ (states : List StateLine) (E : Expr → Type 0) (Q : Lin → Type 0) (c
 
   -- ---- rules
 
-  pub rule_lins : (r : RuleLine) (rule : Rule) → RuleMeans states r (rule_seen rule) → RuleExprs E r → RuleLins Q rule
+  pub rule_lins : (r : WrittenRule) (rule : Rule) → RuleMeans states r (rule_seen rule) → RuleExprs E r → RuleLins Q rule
   rule_lins r rule means are = record {
     guard = guard_lins r.guard (test_of rule.guard) means.guard are.guard;
     sets = subst (All (OptionalLin Q)) (sym means.sets) (place_lins r.sets states are.sets);
   }
 
-  pub rule_exprs : (r : RuleLine) (rule : Rule) → RuleMeans states r (rule_seen rule) → IsSoundRule states r → RuleLins Q rule → RuleExprs E r
+  pub rule_exprs : (r : WrittenRule) (rule : Rule) → RuleMeans states r (rule_seen rule) → IsSoundRule states r → RuleLins Q rule → RuleExprs E r
   rule_exprs r rule means sound are = record {
     guard = guard_exprs r.guard (test_of rule.guard) means.guard are.guard;
     sets = set_exprs [] r.sets sound.once sound.resolved (subst (All (OptionalLin Q)) means.sets are.sets);
@@ -147,7 +146,7 @@ module _ (states : List StateLine) (E : Expr → Type 0) (Q : Lin → Type 0) (c
 -- ---- numbers of rows
 
 module _ (states : List StateLine) (P : ℕ → Type 0) where
-  test_delays : {c : Condition} {t : Test} → Means states c t → CondDelays (λ q. P (rows_of q)) c → TestDelays P t
+  test_delays : {c : Condition} {t : Test} → Means states c t → EachDelay (λ q. P (rows_of q)) c → TestDelays P t
   test_delays resolved.always are = tt
   test_delays resolved.never are = tt
   test_delays (resolved.comparison rel one two) are = tt
@@ -158,7 +157,7 @@ module _ (states : List StateLine) (P : ℕ → Type 0) where
   test_delays resolved.end_of_any are = tt
   test_delays (resolved.any_of means rest) are = (test_delays means are.0, test_delays rest are.1)
 
-  cond_delays : {c : Condition} {t : Test} → Means states c t → TestDelays P t → CondDelays (λ q. P (rows_of q)) c
+  cond_delays : {c : Condition} {t : Test} → Means states c t → TestDelays P t → EachDelay (λ q. P (rows_of q)) c
   cond_delays resolved.always are = tt
   cond_delays resolved.never are = tt
   cond_delays (resolved.comparison rel one two) are = tt
@@ -169,11 +168,11 @@ module _ (states : List StateLine) (P : ℕ → Type 0) where
   cond_delays resolved.end_of_any are = tt
   cond_delays (resolved.any_of means rest) are = (cond_delays means are.0, cond_delays rest are.1)
 
-  pub guard_delays_to : (g : Option Cond) (t : Test) → GuardMeans states g t → GuardDelays P g → TestDelays P t
+  pub guard_delays_to : (g : Option Condition) (t : Test) → GuardMeans states g t → GuardDelays P g → TestDelays P t
   guard_delays_to None t means are = subst (TestDelays P) (sym means) tt
   guard_delays_to (Some c) t means are = test_delays means are
 
-  pub guard_delays_from : (g : Option Cond) (t : Test) → GuardMeans states g t → TestDelays P t → GuardDelays P g
+  pub guard_delays_from : (g : Option Condition) (t : Test) → GuardMeans states g t → TestDelays P t → GuardDelays P g
   guard_delays_from None t means are = tt
   guard_delays_from (Some c) t means are = cond_delays means are
 

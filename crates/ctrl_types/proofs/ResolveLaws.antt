@@ -5,8 +5,7 @@ use Rattle.weighing.specs.First.{first}
 use Rattle.whole.specs.declared.answers.ReadFault.{ReadFault}
 use Rattle.whole.specs.declared.answers.ReadFault.TheVariants.{Refused, NoMemory}
 use Rattle.whole.specs.declared.answers.Refusal.{Refusal}
-use Rattle.ctrl_syntax.specs.Limits.{IsSyntax}
-use Rattle.ctrl_syntax.specs.declared.syntax.Syntax.{Syntax}
+use Rattle.ctrl_syntax.specs.Sections.{Sections}
 use Rattle.ctrl_types.specs.declared.controllers.Controller.{Controller}
 use Rattle.ctrl_types.specs.Limits.{IsController}
 use Rattle.ctrl_types.specs.Resolved.{RefusesUnless, Resolves}
@@ -15,6 +14,7 @@ use Rattle.ctrl_types.specs.Statements.{IsFirstBroken, IsUnbroken, statements}
 use Rattle.ctrl_types.proofs.Agreement.{Agrees, fine, stops, judged}
 use Rattle.ctrl_types.proofs.ControllerLaws.{controller_is}
 use Rattle.ctrl_types.proofs.FirstLaws.{broken_again, first_broken, unbroken, unbroken_again}
+use Rattle.ctrl_types.proofs.SectionLimits.{AreSectionsWithin}
 use Rattle.ctrl_types.proofs.TextLaws.{IsRead, text_agrees}
 
 -- where a value is read, nothing is refused
@@ -30,38 +30,38 @@ agrees_err : {X E : Type 0} {P : X → Type 0} {r : Result X E} {t : Result (Uni
 agrees_err fault (fine y is) e = absurd (cc)
 agrees_err fault (stops same) e = cc
 
-module _ (syntax : Syntax) (is : IsSyntax syntax) where
-  fine_is : (c : SeenController) → controller_by syntax ≡ Ok c → IsFine (IsRead syntax) c (first (judged syntax.states) (statements syntax))
-  fine_is c e = agrees_ok c (text_agrees syntax is) e
+module _ (sections : Sections) (is : AreSectionsWithin sections) where
+  fine_is : (c : SeenController) → controller_by sections ≡ Ok c → IsFine (IsRead sections) c (first (judged sections.states) (statements sections))
+  fine_is c e = agrees_ok c (text_agrees sections is) e
 
-  refused_is : (r : Refusal) → controller_by syntax ≡ Err r → first (judged syntax.states) (statements syntax) ≡ Err r
-  refused_is r e = agrees_err r (text_agrees syntax is) e
+  refused_is : (r : Refusal) → controller_by sections ≡ Err r → first (judged sections.states) (statements sections) ≡ Err r
+  refused_is r e = agrees_err r (text_agrees sections is) e
 
-  pub found_is : (result : Result Controller ReadFault) → GivesSeenUnless controller_seen result (controller_by syntax) → IfOk result (λ c. Resolves syntax c)
+  pub found_is : (result : Result Controller ReadFault) → GivesSeenUnless controller_seen result (controller_by sections) → IfOk result (λ c. Resolves sections c)
   found_is (Ok c) gives = (fine_is (controller_seen c) gives).holds.resolves
   found_is (Err fault) gives = tt
 
-  pub limits_are : (result : Result Controller ReadFault) → GivesSeenUnless controller_seen result (controller_by syntax) → IfOk result IsController
-  limits_are (Ok c) gives = controller_is syntax is c (fine_is (controller_seen c) gives).holds
+  pub limits_are : (result : Result Controller ReadFault) → GivesSeenUnless controller_seen result (controller_by sections) → IfOk result IsController
+  limits_are (Ok c) gives = controller_is sections is c (fine_is (controller_seen c) gives).holds
   limits_are (Err fault) gives = tt
 
-  pub unbroken_is : (result : Result Controller ReadFault) → GivesSeenUnless controller_seen result (controller_by syntax) → OnOk result (IsUnbroken syntax)
-  unbroken_is (Ok c) gives = unbroken syntax (fine_is (controller_seen c) gives).passed
+  pub unbroken_is : (result : Result Controller ReadFault) → GivesSeenUnless controller_seen result (controller_by sections) → OnOk result (IsUnbroken sections)
+  unbroken_is (Ok c) gives = unbroken sections (fine_is (controller_seen c) gives).passed
   unbroken_is (Err fault) gives = tt
 
-  pub first_is : (result : Result Controller ReadFault) → GivesSeenUnless controller_seen result (controller_by syntax)
-      → (r : Refusal) → IsErrOf result (Refused r) → IsFirstBroken syntax r
+  pub first_is : (result : Result Controller ReadFault) → GivesSeenUnless controller_seen result (controller_by sections)
+      → (r : Refusal) → IsErrOf result (Refused r) → IsFirstBroken sections r
   first_is (Ok c) gives r e = absurd (cc)
   first_is (Err NoMemory) gives r e = absurd (cc)
-  first_is (Err (Refused s)) gives r e = let same : s ≡ r = cc in subst (IsFirstBroken syntax) same (first_broken syntax s (refused_is s gives))
+  first_is (Err (Refused s)) gives r e = let same : s ≡ r = cc in subst (IsFirstBroken sections) same (first_broken sections s (refused_is s gives))
 
-  pub only_is : (result : Result Controller ReadFault) → GivesSeenUnless controller_seen result (controller_by syntax) → IsUnbroken syntax → IsOkUnless result NoMemory
+  pub only_is : (result : Result Controller ReadFault) → GivesSeenUnless controller_seen result (controller_by sections) → IsUnbroken sections → IsOkUnless result NoMemory
   only_is (Ok c) gives whole = tt
   only_is (Err NoMemory) gives whole = refl
-  only_is (Err (Refused s)) gives whole = let one = refused_is s gives in let two = unbroken_again syntax whole in absurd (cc)
+  only_is (Err (Refused s)) gives whole = let one = refused_is s gives in let two = unbroken_again sections whole in absurd (cc)
 
-  pub refuses_is : (result : Result Controller ReadFault) → GivesSeenUnless controller_seen result (controller_by syntax)
-      → (r : Refusal) → IsFirstBroken syntax r → RefusesUnless r result
-  refuses_is (Ok c) gives r broken = let one = (fine_is (controller_seen c) gives).passed in let two = broken_again syntax r broken in absurd (cc)
+  pub refuses_is : (result : Result Controller ReadFault) → GivesSeenUnless controller_seen result (controller_by sections)
+      → (r : Refusal) → IsFirstBroken sections r → RefusesUnless r result
+  refuses_is (Ok c) gives r broken = let one = (fine_is (controller_seen c) gives).passed in let two = broken_again sections r broken in absurd (cc)
   refuses_is (Err NoMemory) gives r broken = tt
-  refuses_is (Err (Refused s)) gives r broken = let one = refused_is s gives in let two = broken_again syntax r broken in cc
+  refuses_is (Err (Refused s)) gives r broken = let one = refused_is s gives in let two = broken_again sections r broken in cc

@@ -22,7 +22,7 @@ same_name v w e = (bytes_eq-Decides v w).0 e
 pub name_again : (v w : List ℕ) → v ≡ w → bytes_eq v w ≡ true
 name_again v w e = (bytes_eq-Decides v w).1 e
 
-turned : (v w : List ℕ) → bytes_eq v w ≡ bytes_eq w v
+pub turned : (v w : List ℕ) → bytes_eq v w ≡ bytes_eq w v
 turned v w = by (bytes_eq v w) refl (bytes_eq w v) refl
   where
     by : (a : Bool) → bytes_eq v w ≡ a → (b : Bool) → bytes_eq w v ≡ b → a ≡ b

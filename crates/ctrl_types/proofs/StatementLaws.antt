@@ -7,14 +7,14 @@ use Rattle.weighing.specs.First.{and_then}
 use Rattle.weighing.specs.Scaled.{IsNum}
 use Rattle.weighing.specs.declared.scales.Num.{Num}
 use Rattle.condition_syntax.specs.Trees as conditions
-use Rattle.condition_syntax.specs.Trees.{Condition, condition_of}
-use Rattle.condition_syntax.specs.declared.conditions.Cond.{Cond}
+use Rattle.condition_syntax.specs.Trees.{Condition}
 use Rattle.condition_syntax.specs.declared.expressions.Expr.{Expr}
-use Rattle.ctrl_syntax.specs.Limits.{IsStateLine, IsSetLine, IsExpr, IsGuard, CondExprs}
+use Rattle.condition_syntax.specs.Limits.{EachExpr}
+use Rattle.ctrl_syntax.specs.Limits.{IsStateLine, IsSetLine, IsExpr}
 use Rattle.ctrl_syntax.specs.declared.syntax.StateLine.{StateLine}
 use Rattle.ctrl_syntax.specs.declared.syntax.SetLine.{SetLine}
-use Rattle.ctrl_syntax.specs.declared.syntax.RuleLine.{RuleLine}
 use Rattle.ctrl_syntax.specs.declared.syntax.RateLine.{RateLine}
+use Rattle.ctrl_syntax.specs.Sections.{Rule}
 use Rattle.ctrl_types.specs.declared.breaches.Breach.{Breach}
 use Rattle.ctrl_types.specs.declared.breaches.Breach.TheVariants.{Reserved, Unknown, Kinds, Bounds, Twice, Otherwise, Delay, Denominators, Count}
 use Rattle.ctrl_types.specs.declared.controllers.State.{State}
@@ -26,12 +26,13 @@ use Rattle.ctrl_types.specs.Tests.{Test}
 use Rattle.ctrl_types.specs.Names.{has_name, is_reserved, state_named, has_unknown, lin_of, mixes_set, mixes_bound, names_kind}
 use Rattle.ctrl_types.specs.Denominators.{with_numbers}
 use Rattle.ctrl_types.specs.Resolved.{GuardMeans, guard_delay, greatest_delay, place_of}
-use Rattle.ctrl_types.specs.Resolving.{Places, bound_by, condition_by, demand, guard_by, is_filled, is_taken, lin_has, lin_numbers, set_by, set_mixes, state_by, state_of, surveyed, survey_from, wanted, with_lin}
+use Rattle.ctrl_types.specs.Resolving.{Places, bound_by, condition_by, demand, guard_by, is_filled, lin_has, lin_numbers, set_by, set_mixes, state_by, state_of, surveyed, survey_from, wanted, with_lin}
 use Rattle.ctrl_types.specs.Statements.{Saying, Statement, state, rule, assignment, window, rate, any_comparison, any_delay, coefs, condition_numbers, ends_otherwise, guard_numbers, in_guard, is_above, is_unfit, mixed_sides, numbers, passes_limit, sets_name}
 use Rattle.ctrl_types.proofs.Agreement.{Agrees, fine, agrees_then, agrees_map, agrees_wanted, agrees_weaker, agrees_demand, agrees_same, agrees_or, verdict}
 use Rattle.ctrl_types.proofs.DenominatorLaws.{IsDen, is_joined}
 use Rattle.ctrl_types.proofs.NameLaws.{unknown_is, lin_is_found, found_numbers, kinds_are, sets_mix, bounds_mix, coefs_are}
 use Rattle.ctrl_types.proofs.GuardLaws.{gate_agrees}
+use Rattle.ctrl_types.proofs.SectionLimits.{IsGuardWithin}
 use Rattle.ctrl_types.proofs.StateLaws.{AreDistinct, AreResolved, filled_is, filled_with, resolved_push}
 
 abbrev pub said : Saying → List Num → Statement
@@ -64,8 +65,8 @@ pub record IsState (earlier : List StateLine) (s : StateLine) (before : List Num
   pub den : IsDen (before ++ (s.lo ∷ s.hi ∷ [])) x.1
 
 pub state_agrees : (states earlier : List StateLine) (s : StateLine) (before : List Num) (den : ℕ) → IsStateLine s → IsDen before den
-    → Agrees (IsState earlier s before) (state_by earlier s den) (verdict states (said (state earlier s) before))
-unfolding state_by is_taken
+    → Agrees (IsState earlier s before) (state_by (list_any (has_name s.name) earlier) s den) (verdict states (said (state earlier s) before))
+unfolding state_by
 state_agrees states earlier s before den line is =
     agrees_then (agrees_demand (is_reserved s.name || list_any (has_name s.name) earlier) Reserved)
     (λ _ free. agrees_then (agrees_demand (is_above s.lo s.hi) Bounds)
@@ -104,13 +105,13 @@ set_agrees states earlier s places before den apart are filled line is =
 
 -- ---- a guard
 
-pub record IsGuarded (states : List StateLine) (g : Option Cond) (totals : Totals) (before : List Num) (x : Test × Totals) : Type 0 where
+pub record IsGuarded (states : List StateLine) (g : Option Condition) (totals : Totals) (before : List Num) (x : Test × Totals) : Type 0 where
   pub means : GuardMeans states g x.0
   pub fits : in_guard (any_delay is_unfit) g ≡ false
   pub delay_max : x.1.delay_max ≡ guard_delay totals.delay_max g
   pub den : IsDen (before ++ guard_numbers g) x.1.den
 
-cond_numbers : (c : Condition) → CondExprs IsExpr c → All IsNum (condition_numbers c)
+cond_numbers : (c : Condition) → EachExpr IsExpr c → All IsNum (condition_numbers c)
 cond_numbers conditions.always each = All-nil IsNum
 cond_numbers conditions.never each = All-nil IsNum
 cond_numbers (conditions.comparison left rel right) each =
@@ -135,7 +136,7 @@ no_limit x den none is =
     subst (λ (nums : List Num). Agrees (λ next. IsDen (x.before ++ numbers x.says) next) (wanted (with_numbers (Some den) nums) Denominators) (demand (passes_limit x) Denominators)) none
     (limit_agrees x den is (subst (All IsNum) (sym none) (All-nil IsNum)))
 
-pub guard_agrees : (states : List StateLine) (is_last : Bool) (g : Option Cond) (sets : List SetLine) (line : ℕ) (before : List Num) (totals : Totals) → IsGuard g → IsDen before totals.den
+pub guard_agrees : (states : List StateLine) (is_last : Bool) (g : Option Condition) (sets : List SetLine) (line : ℕ) (before : List Num) (totals : Totals) → IsGuardWithin g → IsDen before totals.den
     → Agrees (IsGuarded states g totals before) (guard_by states is_last g totals) (verdict states (said (rule is_last (record { guard = g; sets = sets; line = line })) before))
 unfolding guard_by condition_by surveyed
 guard_agrees states is_last None sets line before totals within is =
@@ -147,13 +148,12 @@ guard_agrees states is_last None sets line before totals within is =
     kept d _ same (fine _ den) = fine (tests.always, totals) (record { means = refl; fits = refl; delay_max = refl; den = subst (IsDen (before ++ [])) same den })
 guard_agrees states is_last (Some c) sets line before totals within is =
     let x : Statement = said (rule is_last (record { guard = Some c; sets = sets; line = line })) before in
-    let tree : Condition = condition_of c in
-    agrees_then (gate_agrees states tree (survey_from totals))
-    (λ t seen. agrees_map {P = IsLeft tree totals before}
-    (agrees_then (agrees_same t.1.mixed (any_comparison (mixed_sides states) tree) Kinds seen.mixed)
-    (λ _ one_kind. agrees_then (agrees_same t.1.unfit (any_delay is_unfit tree) Delay seen.unfit)
-    (λ _ fits. agrees_then (subst (λ d. Agrees (λ next. IsDen (before ++ condition_numbers tree) next) (wanted d Denominators) (demand (passes_limit x) Denominators)) (sym seen.den)
-    (limit_agrees x totals.den is (cond_numbers tree within.each_expr)))
+    agrees_then (gate_agrees states c (survey_from totals))
+    (λ t seen. agrees_map {P = IsLeft c totals before}
+    (agrees_then (agrees_same t.1.mixed (any_comparison (mixed_sides states) c) Kinds seen.mixed)
+    (λ _ one_kind. agrees_then (agrees_same t.1.unfit (any_delay is_unfit c) Delay seen.unfit)
+    (λ _ fits. agrees_then (subst (λ d. Agrees (λ next. IsDen (before ++ condition_numbers c) next) (wanted d Denominators) (demand (passes_limit x) Denominators)) (sym seen.den)
+    (limit_agrees x totals.den is (cond_numbers c within.each_expr)))
     (λ next den. fine (record { delay_max = t.1.delay_max; den = next }) (record { fits = fits; delay_max = seen.delay_max; den = den })))))
     (λ left come. fine (t.0, left) (record { means = seen.means; fits = come.fits; delay_max = come.delay_max; den = come.den })))
 
@@ -163,12 +163,12 @@ pub record IsBound (states : List StateLine) (expr : Expr) (before : List Num) (
   pub found : lin_of states false expr ≡ Some x.0
   pub den : IsDen (before ++ coefs expr.terms) x.1
 
-pub record IsWindow (states : List StateLine) (rules : List RuleLine) (expr : Expr) (before : List Num) (x : Lin × ℕ) : Type 0 where
+pub record IsWindow (states : List StateLine) (rules : List Rule) (expr : Expr) (before : List Num) (x : Lin × ℕ) : Type 0 where
   pub found : lin_of states false expr ≡ Some x.0
   pub ended : not (ends_otherwise rules) ≡ false
   pub den : IsDen (before ++ coefs expr.terms) x.1
 
-pub window_agrees : (states : List StateLine) (rules : List RuleLine) (expr : Expr) (line : ℕ) (before : List Num) (den : ℕ) → IsExpr expr → IsDen before den
+pub window_agrees : (states : List StateLine) (rules : List Rule) (expr : Expr) (line : ℕ) (before : List Num) (den : ℕ) → IsExpr expr → IsDen before den
     → Agrees (IsWindow states rules expr before) (bound_by states (not (ends_otherwise rules)) expr den) (verdict states (said (window rules expr line) before))
 unfolding bound_by
 window_agrees states rules expr line before den within is =

@@ -1,29 +1,29 @@
 -- A text that is resolved, and what is asked of its statements in order.
 use Rattle.std.proofs.Common.{◌≡◌, ℕ, pos, Bool, false, not, Option, Some, None, Result, List, [], ◌∷◌, ◌++◌, map, append_assoc, refl, sym, ap, subst, ◌∙◌, arith}
 use Rattle.std.specs.Prelude.{All, is_none}
-use Rattle.std.specs.List.{list_any, flat_map}
+use Rattle.std.specs.List.{list_any, flat_map, AllZip}
 use Rattle.std.proofs.lemmas.List.{append-nil}
 use Rattle.std.proofs.lemmas.List.Elements.{All-nil, All-cons, All-head, All-tail}
 use Rattle.weighing.specs.First.{and_then, first}
 use Rattle.weighing.specs.declared.scales.Num.{Num}
 use Rattle.weighing.proofs.Events.{first-append}
 use Rattle.whole.specs.declared.answers.Refusal.{Refusal}
-use Rattle.ctrl_syntax.specs.Limits.{IsStateLine, IsSetLine, IsRuleLine, IsRateLine, IsSyntax}
+use Rattle.ctrl_syntax.specs.Limits.{IsStateLine, IsSetLine, IsRateLine}
 use Rattle.ctrl_syntax.specs.declared.syntax.StateLine.{StateLine}
 use Rattle.ctrl_syntax.specs.declared.syntax.SetLine.{SetLine}
-use Rattle.ctrl_syntax.specs.declared.syntax.RuleLine.{RuleLine}
 use Rattle.ctrl_syntax.specs.declared.syntax.RateLine.{RateLine}
-use Rattle.ctrl_syntax.specs.declared.syntax.Syntax.{Syntax}
+use Rattle.ctrl_syntax.specs.Sections.{Rule, Sections}
 use Rattle.ctrl_types.specs.declared.controllers.State.{State}
 use Rattle.ctrl_types.specs.declared.expressions.Lin.{Lin}
 use Rattle.ctrl_types.specs.declared.surveys.Totals.{Totals}
 use Rattle.ctrl_types.specs.Names.{has_name, is_reserved, state_named}
 use Rattle.ctrl_types.specs.Denominators.{least_common}
-use Rattle.ctrl_types.specs.Resolved.{EachPair, RateMeans, RuleMeans, SeenResolves, guard_delay, place_of, rules_delay}
+use Rattle.ctrl_types.specs.Resolved.{RateMeans, RuleMeans, SeenResolves, guard_delay, place_of, rules_delay}
 use Rattle.ctrl_types.specs.Resolving.{Places, SeenController, SeenRule, controller_by, rate_by, rule_by, rules_by, sets_by, state_of, states_by, unset}
 use Rattle.ctrl_types.specs.Statements.{Saying, Statement, rule, assignment, window, any_delay, ends_otherwise, guard_numbers, in_guard, is_empty, is_unfit, sets_name, numbers, placed, rate_sayings, rule_sayings, sayings, set_sayings, state_sayings, statements}
 use Rattle.ctrl_types.proofs.Agreement.{Agrees, fine, agrees_then, agrees_map, agrees_weaker, agrees_line, judged}
 use Rattle.ctrl_types.proofs.DenominatorLaws.{IsDen}
+use Rattle.ctrl_types.proofs.SectionLimits.{AreSectionsWithin, IsRuleWithin}
 use Rattle.ctrl_types.proofs.StateLaws.{AreApart, AreDistinct, AreResolved, distinct, nothing_set, or_right}
 use Rattle.ctrl_types.proofs.StatementLaws.{guard_agrees, rate_agrees, set_agrees, state_agrees, window_agrees}
 
@@ -100,18 +100,18 @@ sets_agree states earlier (s ∷ rest) places before den apart are filled each i
 -- ---- rules
 
 -- what holds of a rule that breaks nothing
-pub record IsSoundRule (states : List StateLine) (r : RuleLine) : Type 0 where
+pub record IsSoundRule (states : List StateLine) (r : Rule) : Type 0 where
   pub fits : in_guard (any_delay is_unfit) r.guard ≡ false
   pub resolved : AreResolved states r.sets
   pub once : AreOnce states [] r.sets
 
-record IsRuled (states : List StateLine) (is_last : Bool) (r : RuleLine) (totals : Totals) (before : List Num) (x : SeenRule × Totals) : Type 0 where
+record IsRuled (states : List StateLine) (is_last : Bool) (r : Rule) (totals : Totals) (before : List Num) (x : SeenRule × Totals) : Type 0 where
   means : RuleMeans states r x.0
   sound : IsSoundRule states r
   delay_max : x.1.delay_max ≡ guard_delay totals.delay_max r.guard
   den : IsDen (behind before (rule is_last r ∷ set_sayings [] r.sets)) x.1.den
 
-rule_agrees : (states : List StateLine) (is_last : Bool) (r : RuleLine) (before : List Num) (totals : Totals) → AreDistinct states → IsRuleLine r → IsDen before totals.den
+rule_agrees : (states : List StateLine) (is_last : Bool) (r : Rule) (before : List Num) (totals : Totals) → AreDistinct states → IsRuleWithin r → IsDen before totals.den
     → Agrees (IsRuled states is_last r totals before) (rule_by states is_last r totals) (asks states before (rule is_last r ∷ set_sayings [] r.sets))
 unfolding rule_by
 rule_agrees states is_last r before totals apart line is =
@@ -124,21 +124,21 @@ rule_agrees states is_last r before totals apart line is =
       den = are.den;
     })))
 
-record AreRules (states : List StateLine) (rules : List RuleLine) (totals : Totals) (before : List Num) (x : List SeenRule × Totals) : Type 0 where
-  means : EachPair (RuleMeans states) rules x.0
+record AreRules (states : List StateLine) (rules : List Rule) (totals : Totals) (before : List Num) (x : List SeenRule × Totals) : Type 0 where
+  means : AllZip (RuleMeans states) rules x.0
   sound : All (IsSoundRule states) rules
   delay_max : x.1.delay_max ≡ rules_delay totals.delay_max rules
   den : IsDen (behind before (rule_sayings rules)) x.1.den
 
-rules_agree : (states : List StateLine) (rules : List RuleLine) (before : List Num) (totals : Totals) → AreDistinct states → All IsRuleLine rules → IsDen before totals.den
+rules_agree : (states : List StateLine) (rules : List Rule) (before : List Num) (totals : Totals) → AreDistinct states → All IsRuleWithin rules → IsDen before totals.den
     → Agrees (AreRules states rules totals before) (rules_by states rules totals) (asks states before (rule_sayings rules))
 unfolding rules_by
 rules_agree states [] before totals apart each is = fine ([], totals) (record { means = tt; sound = All-nil (IsSoundRule states); delay_max = refl; den = is })
 rules_agree states (r ∷ rules) before totals apart each is =
     let here : List Saying = rule (is_empty rules) r ∷ set_sayings [] r.sets in
     subst (Agrees (AreRules states (r ∷ rules) totals before) (rules_by states (r ∷ rules) totals)) (sym (asks-append states before here (rule_sayings rules)))
-    (agrees_then (rule_agrees states (is_empty rules) r before totals apart (All-head IsRuleLine r rules each) is)
-    (λ x one. agrees_map (rules_agree states rules (behind before here) x.1 apart (All-tail IsRuleLine r rules each) one.den)
+    (agrees_then (rule_agrees states (is_empty rules) r before totals apart (All-head IsRuleWithin r rules each) is)
+    (λ x one. agrees_map (rules_agree states rules (behind before here) x.1 apart (All-tail IsRuleWithin r rules each) one.den)
     (λ xs more. fine (x.0 ∷ xs.0, xs.1) (record {
       means = (one.means, more.means);
       sound = All-cons (IsSoundRule states) r rules one.sound more.sound;
@@ -162,14 +162,14 @@ rated_agree states (Some r) before den line is =
 
 -- ---- the whole text
 
-pub record IsRead (syntax : Syntax) (c : SeenController) : Type 0 where
-  pub resolves : SeenResolves syntax c
-  pub apart : AreDistinct syntax.states
-  pub sound : All (IsSoundRule syntax.states) syntax.rules
-  pub ended : not (ends_otherwise syntax.rules) ≡ false
-  pub within : (d : ℕ) × (c.den ≡ pos d) × IsDen (flat_map numbers (sayings syntax)) d
+pub record IsRead (sections : Sections) (c : SeenController) : Type 0 where
+  pub resolves : SeenResolves sections c
+  pub apart : AreDistinct sections.states
+  pub sound : All (IsSoundRule sections.states) sections.rules
+  pub ended : not (ends_otherwise sections.rules) ≡ false
+  pub within : (d : ℕ) × (c.den ≡ pos d) × IsDen (flat_map numbers (sayings sections)) d
 
-all_behind : (states : List StateLine) (rules : List RuleLine) (w : Saying) (rates : List Saying)
+all_behind : (states : List StateLine) (rules : List Rule) (w : Saying) (rates : List Saying)
     → behind (behind (behind [] (state_sayings [] states)) (rule_sayings rules)) (w ∷ rates) ≡ flat_map numbers (state_sayings [] states ++ (rule_sayings rules ++ (w ∷ rates)))
 all_behind states rules w rates =
     sym (behind-append (behind [] (state_sayings [] states)) (rule_sayings rules) (w ∷ rates))
@@ -180,23 +180,23 @@ none_is : IsDen [] 1
 unfolding least_common
 none_is = record { is = refl; scale = record { from = omega arith; to = omega arith } }
 
-pub text_agrees : (syntax : Syntax) → IsSyntax syntax → Agrees (IsRead syntax) (controller_by syntax) (first (judged syntax.states) (statements syntax))
+pub text_agrees : (sections : Sections) → AreSectionsWithin sections → Agrees (IsRead sections) (controller_by sections) (first (judged sections.states) (statements sections))
 unfolding controller_by statements sayings
-text_agrees syntax is =
-    let states : List StateLine = syntax.states in
-    let w : Saying = window syntax.rules syntax.window syntax.window_line in
+text_agrees sections is =
+    let states : List StateLine = sections.states in
+    let w : Saying = window sections.rules sections.window sections.window_line in
     let opening : List Saying = state_sayings [] states in
-    let ruling : List Saying = rule_sayings syntax.rules in
+    let ruling : List Saying = rule_sayings sections.rules in
     let before_rules : List Num = behind [] opening in
     let before_window : List Num = behind before_rules ruling in
-    subst (Agrees (IsRead syntax) (controller_by syntax)) (sym (asks-append states [] opening (ruling ++ (w ∷ rate_sayings syntax.rate))))
+    subst (Agrees (IsRead sections) (controller_by sections)) (sym (asks-append states [] opening (ruling ++ (w ∷ rate_sayings sections.rate))))
     (agrees_then (states_agree states [] states [] 1 is.each_state none_is)
-    (λ made one. subst (Agrees (IsRead syntax) _) (sym (asks-append states before_rules ruling (w ∷ rate_sayings syntax.rate)))
-    (agrees_then (rules_agree states syntax.rules before_rules (record { delay_max = 0; den = made.1 }) (distinct [] states one.apart) is.each_rule one.den)
-    (λ rules two. agrees_then (agrees_line syntax.window_line (window_agrees states syntax.rules syntax.window syntax.window_line before_window rules.1.den is.window two.den))
-    (λ bound three. agrees_map (rated_agree states syntax.rate (before_window ++ numbers w) bound.1 is.rate three.den)
+    (λ made one. subst (Agrees (IsRead sections) _) (sym (asks-append states before_rules ruling (w ∷ rate_sayings sections.rate)))
+    (agrees_then (rules_agree states sections.rules before_rules (record { delay_max = 0; den = made.1 }) (distinct [] states one.apart) is.each_rule one.den)
+    (λ rules two. agrees_then (agrees_line sections.window_line (window_agrees states sections.rules sections.window sections.window_line before_window rules.1.den is.window two.den))
+    (λ bound three. agrees_map (rated_agree states sections.rate (before_window ++ numbers w) bound.1 is.rate three.den)
     (λ rated four. fine (record { states = made.0; rules = rules.0; window = bound.0; rate = rated.0; delay_max = rules.1.delay_max; den = pos rated.1 })
-    (let all = subst (λ (ns : List Num). IsDen ns rated.1) (all_behind states syntax.rules w (rate_sayings syntax.rate)) four.den in record {
+    (let all = subst (λ (ns : List Num). IsDen ns rated.1) (all_behind states sections.rules w (rate_sayings sections.rate)) four.den in record {
       resolves = record {
         states = one.made;
         rules = two.means;

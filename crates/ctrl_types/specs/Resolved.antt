@@ -1,6 +1,6 @@
--- The controller that a syntax means.
+-- The controller that a text means.
 use Rattle.std.specs.Prelude.{◌≡◌, ℕ, pos, max, List, [], ◌∷◌, map, true, false, Option, None, Some, Result, Ok, Err}
-use Rattle.std.specs.List.{find, flat_map}
+use Rattle.std.specs.List.{find, flat_map, AllZip}
 use Rattle.std.specs.Option.{option_and_then}
 use Rattle.whole.specs.declared.answers.ReadFault.{ReadFault}
 use Rattle.whole.specs.declared.answers.ReadFault.TheVariants.{Refused, NoMemory}
@@ -8,14 +8,12 @@ use Rattle.whole.specs.declared.answers.Refusal.{Refusal}
 use Rattle.weighing.specs.declared.scales.Num.{Num}
 use Rattle.weighing.specs.declared.weighings.Rel5.{Rel5}
 use Rattle.condition_syntax.specs.Trees as conditions
-use Rattle.condition_syntax.specs.Trees.{Condition, condition_of}
-use Rattle.condition_syntax.specs.declared.conditions.Cond.{Cond}
+use Rattle.condition_syntax.specs.Trees.{Condition}
 use Rattle.condition_syntax.specs.declared.expressions.Expr.{Expr}
 use Rattle.ctrl_syntax.specs.declared.syntax.StateLine.{StateLine}
 use Rattle.ctrl_syntax.specs.declared.syntax.SetLine.{SetLine}
-use Rattle.ctrl_syntax.specs.declared.syntax.RuleLine.{RuleLine}
 use Rattle.ctrl_syntax.specs.declared.syntax.RateLine.{RateLine}
-use Rattle.ctrl_syntax.specs.declared.syntax.Syntax.{Syntax}
+use Rattle.ctrl_syntax.specs.Sections.{Rule, Sections}
 use Rattle.ctrl_types.specs.declared.controllers.Controller.{Controller}
 use Rattle.ctrl_types.specs.declared.expressions.Lin.{Lin}
 use Rattle.ctrl_types.specs.Tests as tests
@@ -39,24 +37,17 @@ pub data Means (states : List StateLine) : Condition → Test → Type 0 where
   any_of : {c rest : Condition} {t u : Test} → Means states c t → Means states rest u → Means states (conditions.any_of c rest) (tests.any_of t u)
 
 -- `otherwise` always holds
-abbrev pub GuardMeans : List StateLine → Option Cond → Test → Type 0
+abbrev pub GuardMeans : List StateLine → Option Condition → Test → Type 0
 GuardMeans states None t = t ≡ tests.always
-GuardMeans states (Some c) t = Means states (condition_of c) t
+GuardMeans states (Some c) t = Means states c t
 
 -- the expression of the line that sets a state, if one does
 abbrev pub place_of : List StateLine → List SetLine → StateLine → Option Lin
 place_of states sets s = option_and_then (λ (l : SetLine). lin_of states true l.expr) (find (sets_name s.name) sets)
 
-pub record RuleMeans (states : List StateLine) (line : RuleLine) (rule : SeenRule) : Type 0 where
+pub record RuleMeans (states : List StateLine) (line : Rule) (rule : SeenRule) : Type 0 where
   pub guard : GuardMeans states line.guard rule.guard
   pub sets : rule.sets ≡ map (place_of states line.sets) states
-
--- two lists are as long, and the relation holds of the first two, the second two and so on
-abbrev pub EachPair : {X Y : Type 0} → (X → Y → Type 0) → List X → List Y → Type 0
-EachPair R [] [] = Unit {0}
-EachPair R [] (y ∷ ys) = ⊥
-EachPair R (x ∷ xs) [] = ⊥
-EachPair R (x ∷ xs) (y ∷ ys) = R x y × EachPair R xs ys
 
 abbrev pub RateMeans : List StateLine → Option RateLine → Option Lin → Type 0
 RateMeans states None None = Unit {0}
@@ -76,26 +67,26 @@ greatest_delay k (conditions.all_of c rest) = greatest_delay (greatest_delay k c
 greatest_delay k conditions.end_of_any = k
 greatest_delay k (conditions.any_of c rest) = greatest_delay (greatest_delay k c) rest
 
-abbrev pub guard_delay : ℕ → Option Cond → ℕ
+abbrev pub guard_delay : ℕ → Option Condition → ℕ
 guard_delay k None = k
-guard_delay k (Some c) = greatest_delay k (condition_of c)
+guard_delay k (Some c) = greatest_delay k c
 
-abbrev pub rules_delay : ℕ → List RuleLine → ℕ
+abbrev pub rules_delay : ℕ → List Rule → ℕ
 rules_delay k [] = k
 rules_delay k (r ∷ rules) = rules_delay (guard_delay k r.guard) rules
 
--- the controller of a syntax, with its guards seen as trees
-pub record SeenResolves (syntax : Syntax) (c : SeenController) : Type 0 where
-  pub states : c.states ≡ map state_of syntax.states
-  pub rules : EachPair (RuleMeans syntax.states) syntax.rules c.rules
-  pub window : lin_of syntax.states false syntax.window ≡ Some c.window
-  pub rate : RateMeans syntax.states syntax.rate c.rate
-  pub delay_max : c.delay_max ≡ rules_delay 0 syntax.rules
-  pub den : c.den ≡ pos (least_common (flat_map numbers (sayings syntax)))
+-- the controller of a text, with its guards seen as trees
+pub record SeenResolves (sections : Sections) (c : SeenController) : Type 0 where
+  pub states : c.states ≡ map state_of sections.states
+  pub rules : AllZip (RuleMeans sections.states) sections.rules c.rules
+  pub window : lin_of sections.states false sections.window ≡ Some c.window
+  pub rate : RateMeans sections.states sections.rate c.rate
+  pub delay_max : c.delay_max ≡ rules_delay 0 sections.rules
+  pub den : c.den ≡ pos (least_common (flat_map numbers (sayings sections)))
 
--- the controller that the syntax means
-abbrev pub Resolves : Syntax → Controller → Type 0
-Resolves syntax c = SeenResolves syntax (controller_seen c)
+-- the controller that the text means
+abbrev pub Resolves : Sections → Controller → Type 0
+Resolves sections c = SeenResolves sections (controller_seen c)
 
 -- a call is refused so, unless memory runs out
 abbrev pub RefusesUnless : {X : Type 0} → Refusal → Result X ReadFault → Type 0

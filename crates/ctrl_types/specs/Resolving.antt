@@ -1,4 +1,4 @@
--- Resolving a syntax from the top: its controller, or the refusal of the first line that breaks a rule.
+-- Resolving a controller's sections from the top: its controller, or the refusal of the first line that breaks a rule.
 use Rattle.std.specs.Prelude.{◌≡◌, ℕ, ℤ, pos, max, List, [], ◌∷◌, ◌++◌, map, slice_get, slice_set, Bool, true, false, ◌||◌, ◌&&◌, not, Option, None, Some, is_some, Result, Ok, Err}
 use Rattle.std.specs.List.{list_any}
 use Rattle.text_lines.specs.Steps.{◌>>=◌, Fails}
@@ -7,15 +7,14 @@ use Rattle.whole.specs.declared.answers.ReadFault.{ReadFault}
 use Rattle.whole.specs.declared.answers.ReadFault.TheVariants as faults
 use Rattle.weighing.specs.declared.scales.Num.{Num}
 use Rattle.weighing.specs.declared.weighings.Rel5.{Rel5}
-use Rattle.condition_syntax.specs.Trees.{Condition, always, never, comparison, delay, opposite, end_of_all, all_of, end_of_any, any_of, condition_of}
-use Rattle.condition_syntax.specs.declared.conditions.Cond.{Cond}
+use Rattle.condition_syntax.specs.Trees.{Condition, always, never, comparison, delay, opposite, end_of_all, all_of, end_of_any, any_of}
 use Rattle.condition_syntax.specs.declared.expressions.Expr.{Expr}
-use Rattle.ctrl_syntax.specs.Limits.{IsExpr, IsUnsigned, CondExprs, CondDelays}
+use Rattle.condition_syntax.specs.Limits.{EachExpr, EachDelay}
+use Rattle.ctrl_syntax.specs.Limits.{IsExpr, IsUnsigned}
 use Rattle.ctrl_syntax.specs.declared.syntax.StateLine.{StateLine}
 use Rattle.ctrl_syntax.specs.declared.syntax.SetLine.{SetLine}
-use Rattle.ctrl_syntax.specs.declared.syntax.RuleLine.{RuleLine}
 use Rattle.ctrl_syntax.specs.declared.syntax.RateLine.{RateLine}
-use Rattle.ctrl_syntax.specs.declared.syntax.Syntax.{Syntax}
+use Rattle.ctrl_syntax.specs.Sections.{Rule as WrittenRule, Sections}
 use Rattle.ctrl_types.specs.declared.breaches.Breach.{Breach}
 use Rattle.ctrl_types.specs.declared.breaches.Breach.TheVariants as breaches
 use Rattle.ctrl_types.specs.declared.breaches.Breach.TheVariants.{Reserved, Unknown, Kinds, Bounds, Twice, Otherwise, Denominators}
@@ -84,7 +83,7 @@ on_line line (Err breach) = Err (refusal_of breach line)
 
 -- the expressions and numbers of a condition are within their limits
 abbrev pub AreReadable : Condition → Type 0
-AreReadable c = CondExprs IsExpr c × CondDelays IsUnsigned c
+AreReadable c = EachExpr IsExpr c × EachDelay IsUnsigned c
 
 abbrev pub EachReadable : List Condition → Type 0
 EachReadable [] = Unit {0}
@@ -172,24 +171,21 @@ condition_by states c totals = do
   left ← surveyed t.1
   Ok (t.0, left)
 
-unfoldable pub guard_by : List StateLine → Bool → Option Cond → Totals → Result (Test × Totals) Breach
+unfoldable pub guard_by : List StateLine → Bool → Option Condition → Totals → Result (Test × Totals) Breach
 guard_by states is_last None totals = do
   last ← demand (not is_last) Otherwise
   Ok (tests.always, totals)
-guard_by states is_last (Some c) totals = condition_by states (condition_of c) totals
+guard_by states is_last (Some c) totals = condition_by states c totals
 
 -- ---- lines
 
 abbrev pub state_of : StateLine → State
 state_of s = record { name = s.name; kind = kind_of_state s; lo = s.lo; hi = s.hi }
 
--- the name is reserved or one of these states'
-unfoldable pub is_taken : List StateLine → List ℕ → Bool
-is_taken earlier w = is_reserved w || list_any (has_name w) earlier
-
-unfoldable pub state_by : List StateLine → StateLine → ℕ → Result (State × ℕ) Breach
-state_by earlier s den = do
-  free ← demand (is_taken earlier s.name) Reserved
+-- the state of a line; whether an earlier state has its name
+unfoldable pub state_by : Bool → StateLine → ℕ → Result (State × ℕ) Breach
+state_by taken s den = do
+  free ← demand (is_reserved s.name || taken) Reserved
   ordered ← demand (is_above s.lo s.hi) Bounds
   next ← wanted (with_numbers (Some den) (s.lo ∷ s.hi ∷ [])) Denominators
   Ok (state_of s, next)
@@ -197,7 +193,7 @@ state_by earlier s den = do
 unfoldable pub states_by : List StateLine → List StateLine → ℕ → Result (List State × ℕ) Refusal
 states_by earlier [] den = Ok ([], den)
 states_by earlier (s ∷ states) den = do
-  x ← on_line s.line (state_by earlier s den)
+  x ← on_line s.line (state_by (list_any (has_name s.name) earlier) s den)
   xs ← states_by (earlier ++ s ∷ []) states x.1
   Ok (x.0 ∷ xs.0, xs.1)
 
@@ -242,13 +238,13 @@ pub record SeenRule : Type 0 where
 abbrev pub rule_seen : Rule → SeenRule
 rule_seen rule = record { guard = test_of rule.guard; sets = rule.sets }
 
-unfoldable pub rule_by : List StateLine → Bool → RuleLine → Totals → Result (SeenRule × Totals) Refusal
+unfoldable pub rule_by : List StateLine → Bool → WrittenRule → Totals → Result (SeenRule × Totals) Refusal
 rule_by states is_last r totals = do
   guard ← on_line r.line (guard_by states is_last r.guard totals)
   sets ← sets_by states r.sets (unset states) guard.1.den
   Ok (record { guard = guard.0; sets = sets.0 }, record { delay_max = guard.1.delay_max; den = sets.1 })
 
-unfoldable pub rules_by : List StateLine → List RuleLine → Totals → Result (List SeenRule × Totals) Refusal
+unfoldable pub rules_by : List StateLine → List WrittenRule → Totals → Result (List SeenRule × Totals) Refusal
 rules_by states [] totals = Ok ([], totals)
 rules_by states (r ∷ rules) totals = do
   x ← rule_by states (is_empty rules) r totals
@@ -283,10 +279,10 @@ pub record SeenController : Type 0 where
 abbrev pub controller_seen : Controller → SeenController
 controller_seen c = record { states = c.states; rules = map rule_seen c.rules; window = c.window; rate = c.rate; delay_max = c.delay_max; den = c.den }
 
-unfoldable pub controller_by : Syntax → Result SeenController Refusal
-controller_by syntax = do
-  states ← states_by [] syntax.states 1
-  rules ← rules_by syntax.states syntax.rules (record { delay_max = 0; den = states.1 })
-  window ← on_line syntax.window_line (bound_by syntax.states (not (ends_otherwise syntax.rules)) syntax.window rules.1.den)
-  rate ← rate_by syntax.states syntax.rate window.1
+unfoldable pub controller_by : Sections → Result SeenController Refusal
+controller_by sections = do
+  states ← states_by [] sections.states 1
+  rules ← rules_by sections.states sections.rules (record { delay_max = 0; den = states.1 })
+  window ← on_line sections.window_line (bound_by sections.states (not (ends_otherwise sections.rules)) sections.window rules.1.den)
+  rate ← rate_by sections.states sections.rate window.1
   Ok (record { states = states.0; rules = rules.0; window = window.0; rate = rate.0; delay_max = rules.1.delay_max; den = pos rate.1 })

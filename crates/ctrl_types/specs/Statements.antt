@@ -5,15 +5,13 @@ use Rattle.std.specs.Str.{bytes_eq}
 use Rattle.whole.specs.declared.answers.Refusal.{Refusal}
 use Rattle.weighing.specs.Scaled.{den_of}
 use Rattle.weighing.specs.declared.scales.Num.{Num}
-use Rattle.condition_syntax.specs.Trees.{Condition, always, never, comparison, delay, opposite, end_of_all, all_of, end_of_any, any_of, condition_of}
-use Rattle.condition_syntax.specs.declared.conditions.Cond.{Cond}
+use Rattle.condition_syntax.specs.Trees.{Condition, always, never, comparison, delay, opposite, end_of_all, all_of, end_of_any, any_of}
 use Rattle.condition_syntax.specs.declared.expressions.Expr.{Expr}
 use Rattle.condition_syntax.specs.declared.expressions.ETerm.{ETerm}
 use Rattle.ctrl_syntax.specs.declared.syntax.StateLine.{StateLine}
 use Rattle.ctrl_syntax.specs.declared.syntax.SetLine.{SetLine}
-use Rattle.ctrl_syntax.specs.declared.syntax.RuleLine.{RuleLine}
 use Rattle.ctrl_syntax.specs.declared.syntax.RateLine.{RateLine}
-use Rattle.ctrl_syntax.specs.declared.syntax.Syntax.{Syntax}
+use Rattle.ctrl_syntax.specs.Sections.{Rule, Sections}
 use Rattle.ctrl_types.specs.declared.breaches.Breach.{Breach}
 use Rattle.ctrl_types.specs.declared.breaches.Breach.TheVariants.{Reserved, Unknown, Kinds, Bounds, Twice, Otherwise, Delay, Denominators, Count}
 use Rattle.ctrl_types.specs.declared.controllers.Kind.TheVariants as kinds
@@ -27,11 +25,11 @@ pub data Saying : Type 0 where
   -- a state, behind these
   state : List StateLine → StateLine → Saying
   -- a rule; whether it is the last
-  rule : Bool → RuleLine → Saying
+  rule : Bool → Rule → Saying
   -- an assignment, behind these of its rule
   assignment : List SetLine → SetLine → Saying
   -- the window on this line, behind these rules
-  window : List RuleLine → Expr → ℕ → Saying
+  window : List Rule → Expr → ℕ → Saying
   rate : RateLine → Saying
 
 abbrev pub line_of : Saying → ℕ
@@ -53,7 +51,7 @@ abbrev pub is_empty : {X : Type 0} → List X → Bool
 is_empty [] = true
 is_empty (x ∷ xs) = false
 
-abbrev pub rule_sayings : List RuleLine → List Saying
+abbrev pub rule_sayings : List Rule → List Saying
 rule_sayings [] = []
 rule_sayings (r ∷ rules) = rule (is_empty rules) r ∷ (set_sayings [] r.sets ++ rule_sayings rules)
 
@@ -62,8 +60,8 @@ rate_sayings None = []
 rate_sayings (Some r) = rate r ∷ []
 
 -- what the lines say, in the order of the text
-unfoldable pub sayings : Syntax → List Saying
-sayings syntax = state_sayings [] syntax.states ++ (rule_sayings syntax.rules ++ (window syntax.rules syntax.window syntax.window_line ∷ rate_sayings syntax.rate))
+unfoldable pub sayings : Sections → List Saying
+sayings sections = state_sayings [] sections.states ++ (rule_sayings sections.rules ++ (window sections.rules sections.window sections.window_line ∷ rate_sayings sections.rate))
 
 -- ---- the numbers of a line; those of tests of delay don't count
 
@@ -81,9 +79,9 @@ condition_numbers (all_of c rest) = condition_numbers c ++ condition_numbers res
 condition_numbers end_of_any = []
 condition_numbers (any_of c rest) = condition_numbers c ++ condition_numbers rest
 
-abbrev pub guard_numbers : Option Cond → List Num
+abbrev pub guard_numbers : Option Condition → List Num
 guard_numbers None = []
-guard_numbers (Some c) = condition_numbers (condition_of c)
+guard_numbers (Some c) = condition_numbers c
 
 abbrev pub numbers : Saying → List Num
 numbers (state earlier s) = s.lo ∷ s.hi ∷ []
@@ -101,8 +99,8 @@ abbrev pub placed : List Num → List Saying → List Statement
 placed before [] = []
 placed before (x ∷ xs) = record { says = x; before = before } ∷ placed (before ++ numbers x) xs
 
-unfoldable pub statements : Syntax → List Statement
-statements syntax = placed [] (sayings syntax)
+unfoldable pub statements : Sections → List Statement
+statements sections = placed [] (sayings sections)
 
 -- ---- conditions
 
@@ -145,9 +143,9 @@ unknown_sides states left right = has_unknown states true left.terms || has_unkn
 unfoldable pub mixed_sides : List StateLine → Expr → Expr → Bool
 mixed_sides states left right = mixes_sides states left.terms right.terms
 
-abbrev pub in_guard : (Condition → Bool) → Option Cond → Bool
+abbrev pub in_guard : (Condition → Bool) → Option Condition → Bool
 in_guard test None = false
-in_guard test (Some c) = test (condition_of c)
+in_guard test (Some c) = test c
 
 -- ---- the rules
 
@@ -155,12 +153,12 @@ in_guard test (Some c) = test (condition_of c)
 unfoldable pub is_above : Num → Num → Bool
 is_above a b = int_lt (b.num *ℤ a.den) (a.num *ℤ b.den)
 
-abbrev pub is_otherwise : Option RuleLine → Bool
+abbrev pub is_otherwise : Option Rule → Bool
 is_otherwise None = false
 is_otherwise (Some r) = is_none r.guard
 
 -- whether the last rule is an `otherwise`
-unfoldable pub ends_otherwise : List RuleLine → Bool
+unfoldable pub ends_otherwise : List Rule → Bool
 ends_otherwise rules = is_otherwise (slice_get rules (length rules - 1))
 
 abbrev pub sets_name : List ℕ → SetLine → Bool
@@ -266,17 +264,17 @@ abbrev pub IsWhole : List StateLine → Statement → Type 0
 IsWhole states x = (b : Breach) → breaks states x b ≡ false
 
 -- no statement of the text breaks a rule
-abbrev pub IsUnbroken : Syntax → Type 0
-IsUnbroken syntax = All (IsWhole syntax.states) (statements syntax)
+abbrev pub IsUnbroken : Sections → Type 0
+IsUnbroken sections = All (IsWhole sections.states) (statements sections)
 
 -- a statement breaks the rule, and none of a lesser number; no statement before it breaks any
-pub record IsFirstBroken (syntax : Syntax) (r : Refusal) : Type 0 where
+pub record IsFirstBroken (sections : Sections) (r : Refusal) : Type 0 where
   pub before : List Statement
   pub stop : Statement
   pub after : List Statement
-  pub parts : statements syntax ≡ before ++ stop ∷ after
-  pub whole : All (IsWhole syntax.states) before
+  pub parts : statements sections ≡ before ++ stop ∷ after
+  pub whole : All (IsWhole sections.states) before
   pub breach : Breach
-  pub broken : breaks syntax.states stop breach ≡ true
-  pub least : (b : Breach) → number_of b < number_of breach → breaks syntax.states stop b ≡ false
+  pub broken : breaks sections.states stop breach ≡ true
+  pub least : (b : Breach) → number_of b < number_of breach → breaks sections.states stop b ≡ false
   pub refusal : r ≡ refusal_of breach (line_of stop.says)

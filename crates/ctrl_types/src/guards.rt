@@ -1,5 +1,5 @@
 //! Conditions with their names replaced, and what they come to.
-ghost use Rattle.std.specs.Prelude.{◌≡◌, ◌≤◌, length, map, All, IfSome};
+ghost use Rattle.std.specs.Prelude.{◌≡◌, map, All, IfSome};
 ghost use Rattle.weighing.specs.Scaled.{IsNum};
 ghost use Rattle.condition_syntax.specs.Trees.{condition_of};
 ghost use Rattle.ctrl_syntax.specs.Limits.{IsExpr};
@@ -7,10 +7,12 @@ ghost use Rattle.ctrl_types.specs.Tests.{test_of};
 ghost use Rattle.ctrl_types.specs.Statements.{rows_of, is_unfit};
 ghost use Rattle.ctrl_types.specs.Denominators.{IsScale};
 ghost use Rattle.ctrl_types.specs.Resolving.{AnswersLeaving, AreReadable, EachReadable, comparison_by, gate_by, gates_by, with_comparison, with_delay};
+ghost use Rattle.ctrl_types.specs.Scopes.{IsScope};
 
 use crate::breaches::Halt;
 use crate::expressions::Lin;
 use crate::gates::Gate;
+use crate::names::Scope;
 use crate::sums::{lin, lins_mix, with_lin};
 use crate::surveys::Survey;
 use ctrl_syntax::{Cond, Expr, Num, Rel5, StateLine};
@@ -70,22 +72,22 @@ fn with_delay(number: Num, seen: Survey) -> Survey
 #[tactic(auto, unfolding(crate::specs::Resolving::comparison_by))]
 fn comparison(
     alloc: Global,
-    states: &[StateLine],
+    scope: &Scope<'_>,
     left: &Expr,
     rel: Rel5,
     right: &Expr,
     seen: &mut Survey,
 ) -> Result<Gate, Halt>
-    requires states_to { length states.now ≤ 8 }
+    requires scope_in { IsScope scope.now }
     requires left_in { IsExpr left.now }
     requires right_in { IsExpr right.now }
     requires den_in { IfSome seen.old.den IsScale }
-    ensures exact { AnswersLeaving test_of result seen.new (comparison_by states.now left.now rel right.now seen.old) }
+    ensures exact { AnswersLeaving test_of result seen.new (comparison_by scope.now.states.now left.now rel right.now seen.old) }
     ensures within { IfSome seen.new.den IsScale }
 {
-    let left = lin(alloc, states, true, left)?;
-    let right = lin(alloc, states, true, right)?;
-    *seen = with_comparison(states, &left, &right, *seen);
+    let left = lin(alloc, scope, true, left)?;
+    let right = lin(alloc, scope, true, right)?;
+    *seen = with_comparison(scope.states, &left, &right, *seen);
     Ok(Gate::Cmp(left, rel, right))
 }
 
@@ -94,39 +96,30 @@ fn comparison(
 #[tactic(auto, using(crate::proofs::TreeLaws::parts_of_And, crate::proofs::TreeLaws::parts_of_Or), unfolding(crate::specs::Resolving::gate_by))]
 pub(crate) fn gate(
     alloc: Global,
-    states: &[StateLine],
+    scope: &Scope<'_>,
     condition: &Cond,
     seen: &mut Survey,
 ) -> Result<Gate, Halt>
-    requires states_to { length states.now ≤ 8 }
+    requires scope_in { IsScope scope.now }
     requires condition_in { AreReadable (condition_of condition.now) }
     requires den_in { IfSome seen.old.den IsScale }
-    ensures exact { AnswersLeaving test_of result seen.new (gate_by states.now (condition_of condition.now) seen.old) }
+    ensures exact { AnswersLeaving test_of result seen.new (gate_by scope.now.states.now (condition_of condition.now) seen.old) }
     ensures within { IfSome seen.new.den IsScale }
 {
     match condition {
         Cond::True => Ok(Gate::True),
         Cond::False => Ok(Gate::False),
-        Cond::Cmp(left, rel, right) => comparison(alloc, states, left, *rel, right, seen),
+        Cond::Cmp(left, rel, right) => comparison(alloc, scope, left, *rel, right, seen),
         Cond::Delay(number) => {
             *seen = with_delay(*number, *seen);
             Ok(Gate::Delay(rows_of(*number)))
         }
-        Cond::Not(part) => match gate(alloc, states, part, seen) {
-            Ok(inner) => match Box::new(alloc, inner) {
-                Ok(inner) => Ok(Gate::Not(inner)),
-                Err(_) => Err(Halt::NoMemory),
-            },
-            Err(halt) => Err(halt),
-        },
-        Cond::And(parts) => match gates(alloc, states, parts, seen) {
-            Ok(gates) => Ok(Gate::And(gates)),
-            Err(halt) => Err(halt),
-        },
-        Cond::Or(parts) => match gates(alloc, states, parts, seen) {
-            Ok(gates) => Ok(Gate::Or(gates)),
-            Err(halt) => Err(halt),
-        },
+        Cond::Not(part) => {
+            let inner = gate(alloc, scope, part, seen)?;
+            Ok(Gate::Not(Box::new(alloc, inner)?))
+        }
+        Cond::And(parts) => Ok(Gate::And(gates(alloc, scope, parts, seen)?)),
+        Cond::Or(parts) => Ok(Gate::Or(gates(alloc, scope, parts, seen)?)),
     }
 }
 
@@ -135,26 +128,20 @@ pub(crate) fn gate(
 #[tactic(auto, unfolding(crate::specs::Resolving::gates_by))]
 fn gates(
     alloc: Global,
-    states: &[StateLine],
+    scope: &Scope<'_>,
     parts: &Vec<Cond>,
     seen: &mut Survey,
 ) -> Result<Vec<Gate>, Halt>
-    requires states_to { length states.now ≤ 8 }
+    requires scope_in { IsScope scope.now }
     requires parts_in { EachReadable (map condition_of parts.now.items) }
     requires den_in { IfSome seen.old.den IsScale }
-    ensures exact { AnswersLeaving (λ gates. map test_of gates.items) result seen.new (gates_by states.now (map condition_of parts.now.items) seen.old) }
+    ensures exact { AnswersLeaving (λ gates. map test_of gates.items) result seen.new (gates_by scope.now.states.now (map condition_of parts.now.items) seen.old) }
     ensures within { IfSome seen.new.den IsScale }
 {
     let mut gates = Vec::new(alloc);
     for part in parts {
-        let inner = match gate(alloc, states, part, seen) {
-            Ok(inner) => inner,
-            Err(halt) => return Err(halt),
-        };
-        match gates.push(inner) {
-            Ok(()) => {}
-            Err(_) => return Err(Halt::NoMemory),
-        }
+        let inner = gate(alloc, scope, part, seen)?;
+        gates.push(inner)?;
     }
     Ok(gates)
 }

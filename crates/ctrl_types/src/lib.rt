@@ -5,11 +5,10 @@
 
 mod breaches;
 mod controllers;
-#[cfg(test)]
-mod drafts;
 mod expressions;
 mod gates;
 mod guards;
+mod laws;
 mod names;
 mod resolving;
 mod statements;
@@ -21,5 +20,6 @@ mod tests;
 pub use controllers::{Controller, Kind, Rule, State};
 pub use expressions::{Lin, LinTerm, Source};
 pub use gates::Gate;
+pub use laws::statements_are_told_apart;
 pub use resolving::resolve;
 pub use sums::with_number;

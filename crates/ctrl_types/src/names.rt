@@ -1,10 +1,18 @@
 //! What names stand for.
-ghost use Rattle.std.specs.Prelude.{◌≡◌, ◌≤◌, length};
-ghost use Rattle.std.specs.List.{list_any};
-ghost use Rattle.ctrl_types.specs.Names.{has_name, line_words, condition_words, known_words, is_among, is_reserved, state_named, signal_named, source_named, source_of};
+ghost use Rattle.std.specs.Prelude.{◌≡◌};
+ghost use Rattle.ctrl_types.specs.Names.{line_words, condition_words, known_words, is_among, is_reserved, state_named, signal_named, source_named, source_of};
+ghost use Rattle.ctrl_types.specs.Scopes.{IsScope};
 
 use crate::expressions::Source;
 use ctrl_syntax::{Name, StateLine};
+use indexmap::IndexSet;
+
+/// The states of a text and their names, which are numbered in its order.
+#[derive(Drop)]
+pub(crate) struct Scope<'a> {
+    pub(crate) states: &'a [StateLine],
+    pub(crate) names: IndexSet<&'a [u8]>,
+}
 
 #[tactic(auto, unfolding(crate::specs::Names::is_among))]
 fn is_line_word(word: &[u8]) -> bool
@@ -57,29 +65,14 @@ pub(crate) fn is_reserved(word: &[u8]) -> bool
 }
 
 /// The number of the state with this name.
-#[tactic(auto, unfolding(crate::specs::Names::state_named))]
-pub(crate) fn state_named(states: &[StateLine], word: &[u8]) -> Option<u32>
-    requires { length states.now ≤ 8 }
-    ensures { result ≡ state_named states.now word.now }
+pub(crate) fn state_named(scope: &Scope<'_>, word: &[u8]) -> Option<u32>
+    requires { IsScope scope.now }
+    ensures { result ≡ state_named scope.now.states.now word.now }
 {
-    for (number, state) in states.iter().enumerate() {
-        if state.name.as_slice() == word {
-            return Some(number as u32);
-        }
+    match scope.names.get_index_of(&word) {
+        Some(number) => Some(number as u32),
+        None => None,
     }
-    None
-}
-
-/// Whether one of these states has this name.
-pub(crate) fn has_state(states: &[StateLine], word: &[u8]) -> bool
-    ensures { result ≡ list_any (has_name word.now) states.now }
-{
-    for state in states {
-        if state.name.as_slice() == word {
-            return true;
-        }
-    }
-    false
 }
 
 #[tactic(auto, unfolding(crate::specs::Names::signal_named))]
@@ -97,11 +90,11 @@ fn signal_named(word: &[u8]) -> Option<Source>
 
 /// The state with this name; where signals are known, `acked` and `lost` too.
 #[tactic(auto, unfolding(crate::specs::Names::source_named))]
-fn source_named(states: &[StateLine], signals: bool, word: &[u8]) -> Option<Source>
-    requires { length states.now ≤ 8 }
-    ensures { result ≡ source_named states.now signals word.now }
+fn source_named(scope: &Scope<'_>, signals: bool, word: &[u8]) -> Option<Source>
+    requires { IsScope scope.now }
+    ensures { result ≡ source_named scope.now.states.now signals word.now }
 {
-    match state_named(states, word) {
+    match state_named(scope, word) {
         Some(number) => Some(Source::State(number)),
         None => { if signals { signal_named(word) } else { None } }
     }
@@ -109,12 +102,12 @@ fn source_named(states: &[StateLine], signals: bool, word: &[u8]) -> Option<Sour
 
 /// What a term is a multiple of; None where its name is unknown.
 #[tactic(auto, unfolding(crate::specs::Names::source_of))]
-pub(crate) fn source_of(states: &[StateLine], signals: bool, name: &Option<Name>) -> Option<Source>
-    requires { length states.now ≤ 8 }
-    ensures { result ≡ source_of states.now signals name.now }
+pub(crate) fn source_of(scope: &Scope<'_>, signals: bool, name: &Option<Name>) -> Option<Source>
+    requires { IsScope scope.now }
+    ensures { result ≡ source_of scope.now.states.now signals name.now }
 {
     match name {
-        Some(name) => source_named(states, signals, name.text.as_slice()),
+        Some(name) => source_named(scope, signals, name.text.as_slice()),
         None => Some(Source::One),
     }
 }

@@ -1,19 +1,21 @@
 //! What one line says with its names replaced, or the first rule that it breaks.
-ghost use Rattle.std.specs.Prelude.{◌≡◌, ◌≤◌, length, [], ◌∷◌, slice_get, Some, IfOk, IfSome};
+ghost use Rattle.std.specs.Prelude.{◌≡◌, length, [], ◌∷◌, slice_get, Some, IfOk, IfSome};
 ghost use Rattle.ctrl_syntax.specs.Limits.{IsExpr, IsGuard, IsSetLine, IsStateLine};
+ghost use Rattle.ctrl_syntax.specs.Sections.{guard_of};
 ghost use Rattle.weighing.specs.Scaled.{IsNum};
 ghost use Rattle.condition_syntax.specs.Trees.{condition_of};
 ghost use Rattle.ctrl_types.specs.Tests.{test_of};
 ghost use Rattle.ctrl_types.specs.Statements.{is_above};
 ghost use Rattle.ctrl_types.specs.Denominators.{IsScale, with_numbers};
-ghost use Rattle.ctrl_types.specs.Resolving.{Answers, AnswersLeaving, AreReadable, bound_by, condition_by, demand, guard_by, is_filled, is_taken, set_by, set_mixes, state_by, surveyed};
+ghost use Rattle.ctrl_types.specs.Resolving.{Answers, AnswersLeaving, AreReadable, bound_by, condition_by, demand, guard_by, is_filled, set_by, set_mixes, state_by, surveyed};
+ghost use Rattle.ctrl_types.specs.Scopes.{IsScope};
 
 use crate::breaches::{Breach, Halt};
 use crate::controllers::{Kind, State};
 use crate::expressions::{Lin, Source};
 use crate::gates::Gate;
 use crate::guards::gate;
-use crate::names::{has_state, is_reserved, state_named};
+use crate::names::{Scope, is_reserved, state_named};
 use crate::sums::{has_kind, kind_of_state, lin, lin_has, with_lin, with_number};
 use crate::surveys::{Survey, Totals};
 use ctrl_syntax::{Cond, Expr, Num, SetLine, StateLine};
@@ -25,14 +27,6 @@ fn demand(broken: bool, breach: Breach) -> Result<(), Breach>
     ensures { result ≡ demand broken breach }
 {
     if broken { Err(breach) } else { Ok(()) }
-}
-
-/// Whether the name is reserved or one of these states'.
-#[tactic(auto, unfolding(crate::specs::Resolving::is_taken))]
-fn is_taken(earlier: &[StateLine], word: &[u8]) -> bool
-    ensures { result ≡ is_taken earlier.now word.now }
-{
-    is_reserved(word) || has_state(earlier, word)
 }
 
 /// Whether the first number is greater.
@@ -60,17 +54,17 @@ fn with_bounds(den: u32, state: &StateLine) -> Option<u32>
 #[tactic(auto, unfolding(crate::specs::Resolving::state_by))]
 pub(crate) fn state(
     alloc: Global,
-    earlier: &[StateLine],
+    is_taken: bool,
     line: &StateLine,
     den: &mut u32,
 ) -> Result<State, Halt>
     requires line_in { IsStateLine line.now }
     requires den_in { IsScale den.old }
-    ensures exact { AnswersLeaving (λ x. x) result den.new (state_by earlier.now line.now den.old) }
+    ensures exact { AnswersLeaving (λ x. x) result den.new (state_by is_taken line.now den.old) }
     ensures within { IsScale den.new }
 {
     let word = line.name.as_slice();
-    demand(is_taken(earlier, word), Breach::Reserved)?;
+    demand(is_reserved(word) || is_taken, Breach::Reserved)?;
     demand(is_above(line.lo, line.hi), Breach::Bounds)?;
     *den = with_bounds(*den, line).ok_or(Breach::Denominators)?;
     Ok(State {
@@ -105,22 +99,22 @@ fn is_filled(places: &Items<Option<Lin>>, number: u32) -> bool
 #[tactic(auto, unfolding(crate::specs::Resolving::set_by))]
 pub(crate) fn set(
     alloc: Global,
-    states: &[StateLine],
+    scope: &Scope<'_>,
     line: &SetLine,
     places: &mut Items<Option<Lin>>,
     den: &mut u32,
 ) -> Result<(), Halt>
-    requires states_to { length states.now ≤ 8 }
+    requires scope_in { IsScope scope.now }
     requires line_in { IsSetLine line.now }
-    requires places_are { length places.old ≡ length states.now }
+    requires places_are { length places.old ≡ length scope.now.states.now }
     requires den_in { IsScale den.old }
-    ensures exact { Answers (λ _. (places.new, den.new)) result (set_by states.now line.now places.old den.old) }
+    ensures exact { Answers (λ _. (places.new, den.new)) result (set_by scope.now.states.now line.now places.old den.old) }
     ensures places_stay { length places.new ≡ length places.old }
     ensures within { IsScale den.new }
 {
-    let number = state_named(states, line.name.as_slice()).ok_or(Breach::Unknown)?;
-    let lin = lin(alloc, states, true, &line.expr)?;
-    demand(set_mixes(states, number, &lin), Breach::Kinds)?;
+    let number = state_named(scope, line.name.as_slice()).ok_or(Breach::Unknown)?;
+    let lin = lin(alloc, scope, true, &line.expr)?;
+    demand(set_mixes(scope.states, number, &lin), Breach::Kinds)?;
     demand(is_filled(places, number), Breach::Twice)?;
     *den = with_lin(Some(*den), &lin).ok_or(Breach::Denominators)?;
     places.set(number as usize, Some(lin));
@@ -146,14 +140,14 @@ fn surveyed(seen: Survey) -> Result<Totals, Breach>
 #[tactic(auto, unfolding(crate::specs::Resolving::condition_by))]
 fn condition(
     alloc: Global,
-    states: &[StateLine],
+    scope: &Scope<'_>,
     condition: &Cond,
     totals: &mut Totals,
 ) -> Result<Gate, Halt>
-    requires states_to { length states.now ≤ 8 }
+    requires scope_in { IsScope scope.now }
     requires condition_in { AreReadable (condition_of condition.now) }
     requires totals_in { IsScale totals.old.den }
-    ensures exact { AnswersLeaving test_of result totals.new (condition_by states.now (condition_of condition.now) totals.old) }
+    ensures exact { AnswersLeaving test_of result totals.new (condition_by scope.now.states.now (condition_of condition.now) totals.old) }
     ensures within { IsScale totals.new.den }
 {
     let mut seen = Survey {
@@ -162,7 +156,7 @@ fn condition(
         delay_max: totals.delay_max,
         den: Some(totals.den),
     };
-    let gate = gate(alloc, states, condition, &mut seen)?;
+    let gate = gate(alloc, scope, condition, &mut seen)?;
     *totals = surveyed(seen)?;
     Ok(gate)
 }
@@ -171,19 +165,19 @@ fn condition(
 #[tactic(auto, unfolding(crate::specs::Resolving::guard_by))]
 pub(crate) fn guard(
     alloc: Global,
-    states: &[StateLine],
+    scope: &Scope<'_>,
     is_last: bool,
     guard: &Option<Cond>,
     totals: &mut Totals,
 ) -> Result<Gate, Halt>
-    requires states_to { length states.now ≤ 8 }
+    requires scope_in { IsScope scope.now }
     requires guard_in { IsGuard guard.now }
     requires totals_in { IsScale totals.old.den }
-    ensures exact { AnswersLeaving test_of result totals.new (guard_by states.now is_last guard.now totals.old) }
+    ensures exact { AnswersLeaving test_of result totals.new (guard_by scope.now.states.now is_last (guard_of guard.now) totals.old) }
     ensures within { IsScale totals.new.den }
 {
     match guard {
-        Some(written) => condition(alloc, states, written, totals),
+        Some(written) => condition(alloc, scope, written, totals),
         None => {
             demand(!is_last, Breach::Otherwise)?;
             Ok(Gate::True)
@@ -195,20 +189,23 @@ pub(crate) fn guard(
 #[tactic(auto, unfolding(crate::specs::Resolving::bound_by))]
 pub(crate) fn bound(
     alloc: Global,
-    states: &[StateLine],
+    scope: &Scope<'_>,
     unended: bool,
     expr: &Expr,
     den: &mut u32,
 ) -> Result<Lin, Halt>
-    requires states_to { length states.now ≤ 8 }
+    requires scope_in { IsScope scope.now }
     requires expr_in { IsExpr expr.now }
     requires den_in { IsScale den.old }
-    ensures exact { AnswersLeaving (λ x. x) result den.new (bound_by states.now unended expr.now den.old) }
+    ensures exact { AnswersLeaving (λ x. x) result den.new (bound_by scope.now.states.now unended expr.now den.old) }
     ensures within { IsScale den.new }
 {
-    let lin = lin(alloc, states, false, expr)?;
-    let counts = lin_has(states, Kind::Count, &lin);
-    demand(counts && lin_has(states, Kind::Amount, &lin), Breach::Kinds)?;
+    let lin = lin(alloc, scope, false, expr)?;
+    let counts = lin_has(scope.states, Kind::Count, &lin);
+    demand(
+        counts && lin_has(scope.states, Kind::Amount, &lin),
+        Breach::Kinds,
+    )?;
     demand(unended, Breach::Otherwise)?;
     *den = with_lin(Some(*den), &lin).ok_or(Breach::Denominators)?;
     demand(counts, Breach::Count)?;

@@ -1,16 +1,17 @@
 //! Expressions with their names replaced, and the kinds of what they are made of.
-ghost use Rattle.std.specs.Prelude.{◌≡◌, ◌≤◌, length, All, IfOk, IfSome};
+ghost use Rattle.std.specs.Prelude.{◌≡◌, All, IfOk, IfSome};
 ghost use Rattle.weighing.specs.Scaled.{IsNum};
 ghost use Rattle.ctrl_syntax.specs.Limits.{IsPlainTerm};
 ghost use Rattle.ctrl_types.specs.declared.breaches.Breach.TheVariants.{Unknown};
 ghost use Rattle.ctrl_types.specs.Names.{is_kind, kind_of, kind_of_state, lin_of};
+ghost use Rattle.ctrl_types.specs.Scopes.{IsScope};
 ghost use Rattle.ctrl_types.specs.Denominators.{IsScale, joined, with_number};
 ghost use Rattle.ctrl_types.specs.Resolving.{Answers, wanted, lin_has, lins_mix, with_lin};
 
 use crate::breaches::{Breach, Halt};
 use crate::controllers::Kind;
 use crate::expressions::{Lin, LinTerm, Source};
-use crate::names::source_of;
+use crate::names::{Scope, source_of};
 use ctrl_syntax::{Expr, Num, StateLine};
 use sqlite_items::Items;
 use std::alloc::Global;
@@ -20,30 +21,19 @@ use whole::lcm;
 const MOST_DEN: i128 = 1_000_000;
 
 /// The expression that is meant.
-pub(crate) fn lin(
-    alloc: Global,
-    states: &[StateLine],
-    signals: bool,
-    expr: &Expr,
-) -> Result<Lin, Halt>
-    requires states_to { length states.now ≤ 8 }
+pub(crate) fn lin(alloc: Global, scope: &Scope<'_>, signals: bool, expr: &Expr) -> Result<Lin, Halt>
+    requires scope_in { IsScope scope.now }
     requires expr_in { All IsPlainTerm expr.now.terms }
-    ensures exact { Answers (λ x. x) result (wanted (lin_of states.now signals expr.now) Unknown) }
+    ensures exact { Answers (λ x. x) result (wanted (lin_of scope.now.states.now signals expr.now) Unknown) }
     ensures within { IfOk result (λ lin. All (λ t. IsNum t.coef) lin.terms) }
 {
     let mut terms = Items::new(alloc);
     for term in expr.terms.as_slice() {
-        let of = match source_of(states, signals, &term.name) {
-            Some(of) => of,
-            None => return Err(Halt::Broken(Breach::Unknown)),
-        };
-        match terms.push(LinTerm {
+        let of = source_of(scope, signals, &term.name).ok_or(Breach::Unknown)?;
+        terms.push(LinTerm {
             coef: term.coef,
             of,
-        }) {
-            Ok(()) => {}
-            Err(_) => return Err(Halt::NoMemory),
-        }
+        })?;
     }
     Ok(Lin { terms })
 }

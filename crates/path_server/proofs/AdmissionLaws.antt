@@ -7,8 +7,9 @@ use Rattle.weighing.specs.First.{below, first}
 use Rattle.weighing.specs.Claim.{outcome}
 use Rattle.weighing.proofs.Claims.{outcome_says}
 use Rattle.weighing.proofs.Events.{each_passed, first-flat_map, first-map, first_is_first, passed_below}
+use Rattle.run_rows.specs.Runs.{flow_count}
 use Rattle.run_rows.specs.declared.rows.Run.{Run}
-use Rattle.path_server.specs.Claims.{claim_of, flows_of}
+use Rattle.path_server.specs.Claims.{claim_of}
 use Rattle.path_server.specs.Limits.{IsPath}
 use Rattle.path_server.specs.Rules.{Admitted, RuleHolds}
 use Rattle.path_server.specs.Places.{HoldsAt, IsFirstBroken, IsFirstWide, IsStuckAt, NothingPasses, Place, admission, answer, at_place, examined, number, places, places_of_row, places_of_rule, rules, stop_at}
@@ -85,7 +86,7 @@ number_below WasteRate = omega arith
 
 -- where nothing is found on a row, every place of the row is passed
 every_place_of_row : (p : Path) (r : Run) (i : ℕ) → first (examined p r) (places_of_row r i) ≡ Ok tt → (rule : PathRule) (f : ℕ)
-    → f ≤ flows_of r → examined p r (at_place i rule f) ≡ Ok tt
+    → f ≤ flow_count r 0 → examined p r (at_place i rule f) ≡ Ok tt
 unfolding places_of_row places_of_rule
 every_place_of_row p r i none rule f among =
     let each : first (λ k. first (examined p r) (places_of_rule r i k)) rules ≡ Ok tt =
@@ -95,9 +96,9 @@ every_place_of_row p r i none rule f among =
     All-get_or Passed rules (number rule) Start (number_below rule)
     (each_passed (λ k. first (examined p r) (places_of_rule r i k)) rules each) in
     let mine : Passed rule = subst Passed (listed rule) here in
-    let flows : first (λ k. examined p r (at_place i rule k)) (below (flows_of r + 1)) ≡ Ok tt =
-    sym (first-map (examined p r) (at_place i rule) (below (flows_of r + 1))) ∙ mine in
-    passed_below (λ k. examined p r (at_place i rule k)) f (flows_of r + 1) flows (omega arith)
+    let flows : first (λ k. examined p r (at_place i rule k)) (below (flow_count r 0 + 1)) ≡ Ok tt =
+    sym (first-map (examined p r) (at_place i rule) (below (flow_count r 0 + 1))) ∙ mine in
+    passed_below (λ k. examined p r (at_place i rule k)) f (flow_count r 0 + 1) flows (omega arith)
 
 -- where nothing is found on any row, the path admits the run
 pub rows_admit : (p : Path) (r : Run) → IsPath p → ((i : ℕ) → i < length r.rows → first (examined p r) (places_of_row r i) ≡ Ok tt) → Admitted p r
@@ -187,8 +188,8 @@ unfolding Admitted places_of_row places_of_rule
 holds_on_row p r i admitted inside =
     all_flat_map (HoldsAt p r) (places_of_rule r i) rules
     (All-from_get_or (λ rule. All (HoldsAt p r) (places_of_rule r i rule)) rules Start (λ k _.
-    All-map (HoldsAt p r) (at_place i (get_or rules k Start)) (below (flows_of r + 1))
-    (all_below (λ f. HoldsAt p r (at_place i (get_or rules k Start) f)) (flows_of r + 1) (λ f among.
+    All-map (HoldsAt p r) (at_place i (get_or rules k Start)) (below (flow_count r 0 + 1))
+    (all_below (λ f. HoldsAt p r (at_place i (get_or rules k Start) f)) (flow_count r 0 + 1) (λ f among.
     admitted (get_or rules k Start) i f inside (omega arith)))))
 
 holds_everywhere : (p : Path) (r : Run) → Admitted p r → All (HoldsAt p r) (places r)

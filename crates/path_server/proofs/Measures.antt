@@ -5,9 +5,9 @@ use Rattle.std.proofs.Math.IntN.{*ℤ_comm}
 use Rattle.whole.specs.declared.answers.Pair.{Pair}
 use Rattle.whole.proofs.Integers.{*ℤ-+ℤ, *ℤ_assoc, neg_ℤ-*ℤ, *ℤ-neg_ℤ}
 use Rattle.weighing.specs.Claim.{total}
-use Rattle.run_rows.specs.Runs.{arrived, lost, over_flows, served, waste}
+use Rattle.run_rows.specs.Runs.{arrived, flow_count, lost, over_flows, served, waste}
 use Rattle.run_rows.specs.declared.rows.Run.{Run}
-use Rattle.path_server.specs.Claims.{Factors, accepted, allowance, flows_of, opposite, room, service}
+use Rattle.path_server.specs.Claims.{Factors, accepted, allowance, opposite, room, service}
 use Rattle.path_server.specs.Rules.{all_accepted, all_served, allowed, buffer, buffer_den, unit}
 use Rattle.path_server.specs.declared.settings.Path.{Path}
 use Rattle.path_server.proofs.Totals.{total-each_flow, total-each_flow_2}
@@ -87,14 +87,14 @@ allowance_measured p r s k i d m =
 pub service_measured : (p : Path) (r : Run) (s : Factors) (k : ℤ) (i : ℕ) → Measures p s k
     → k *ℤ total (service r s i) ≡ unit p *ℤ all_served r i
 service_measured p r s k i m =
-    ap (λ n. k *ℤ n) (total-each_flow s.unit (served r i) (flows_of r)) ∙ into_term k s.unit (unit p) (all_served r i) m.unit_is
+    ap (λ n. k *ℤ n) (total-each_flow s.unit (served r i) (flow_count r 0)) ∙ into_term k s.unit (unit p) (all_served r i) m.unit_is
 
 pub accepted_measured : (p : Path) (r : Run) (s : Factors) (k : ℤ) (i : ℕ) → Measures p s k
     → k *ℤ total (accepted r s i) ≡ unit p *ℤ all_accepted r i
 accepted_measured p r s k i m =
-    let arrivals : ℤ = over_flows (arrived r i) (flows_of r) in
-    let losses : ℤ = over_flows (lost r i) (flows_of r) in
-    ap (λ n. k *ℤ n) (total-each_flow_2 s.unit s.minus (arrived r i) (lost r i) (flows_of r))
+    let arrivals : ℤ = over_flows (arrived r i) (flow_count r 0) in
+    let losses : ℤ = over_flows (lost r i) (flow_count r 0) in
+    ap (λ n. k *ℤ n) (total-each_flow_2 s.unit s.minus (arrived r i) (lost r i) (flow_count r 0))
     ∙ *ℤ-+ℤ k (s.unit *ℤ arrivals) (s.minus *ℤ losses)
     ∙ (let one = into_term k s.unit (unit p) arrivals m.unit_is in
     let two = into_term k s.minus (neg_ℤ (unit p)) losses m.minus_is in

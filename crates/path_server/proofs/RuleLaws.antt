@@ -10,9 +10,9 @@ use Rattle.weighing.specs.Claim.{Holds, compare, total}
 use Rattle.weighing.specs.Weighed.{times}
 use Rattle.weighing.specs.declared.weighings.Term.{Term}
 use Rattle.weighing.specs.declared.weighings.Rel5.TheVariants.{AtMost, AtLeast}
-use Rattle.run_rows.specs.Runs.{lost, waste}
+use Rattle.run_rows.specs.Runs.{flow_count, lost, waste}
 use Rattle.run_rows.specs.declared.rows.Run.{Run}
-use Rattle.path_server.specs.Claims.{Factors, acceptance_claim, accepted, allowance, buffer_claim, ceiling_claim, claim_of, common_scale, floor_claim, flows_of, full_or_none, growth_claim, loss_claim, new_losses, opposite, queue_fits, queue_was_full, rate_scale, room, service, service_claim, start_claim, waste_claim, waste_rate_claim}
+use Rattle.path_server.specs.Claims.{Factors, acceptance_claim, accepted, allowance, buffer_claim, ceiling_claim, claim_of, common_scale, floor_claim, full_or_none, growth_claim, loss_claim, new_losses, opposite, queue_fits, queue_was_full, rate_scale, room, service, service_claim, start_claim, waste_claim, waste_rate_claim}
 use Rattle.path_server.specs.Limits.{IsBuffer, IsNumber, IsPath}
 use Rattle.path_server.specs.Rules.{FilledBuffer, FitsBuffer, RuleHolds, all_accepted, all_lost, all_served, allowed, buffer, buffer_den, rate, unit}
 use Rattle.path_server.specs.declared.settings.Path.{Path}
@@ -199,7 +199,7 @@ buffer_means_at p r i (suc f) (Some b) path is = rw none_is_less nothing_said
 
 no_loss_means : (r : Run) (i h : ℕ) → Means (Holds (compare (new_losses r i h) AtMost)) (all_lost r i ≤ℤ all_lost r h)
 no_loss_means r i h =
-    let sums = total-each_flow_2 (pos 1) (negsuc 0) (lost r i) (lost r h) (flows_of r) in
+    let sums = total-each_flow_2 (pos 1) (negsuc 0) (lost r i) (lost r h) (flow_count r 0) in
     (λ c. omega (arith, ints), λ c. omega (arith, ints))
 
 queue_was_full_means : (p : Path) (b : Pair) (r : Run) (i h : ℕ) → IsPath p → p.buffer ≡ Some b

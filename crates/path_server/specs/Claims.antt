@@ -13,10 +13,6 @@ use Rattle.path_server.specs.declared.settings.Path.{Path}
 use Rattle.path_server.specs.declared.path_rules.PathRule.{PathRule}
 use Rattle.path_server.specs.declared.path_rules.PathRule.TheVariants.{Start, Growth, Service, Ceiling, Floor, Waste, Acceptance, Buffer, Loss, WasteRate}
 
--- how many flows a run has
-abbrev pub flows_of : Run → ℕ
-flows_of r = flow_count r 0
-
 -- by what a comparison's entries, its multiples of the rate and its multiples of the buffer are multiplied;
 -- `minus` is the entries' factor with the sign turned
 pub record Factors : Type 0 where
@@ -57,15 +53,15 @@ each_flow terms (suc n) = each_flow terms n ++ terms (suc n)
 
 -- sum S_f(i)
 abbrev pub service : Run → Factors → ℕ → List Term
-service r s i = each_flow (λ f. times s.unit (served r i f) ∷ []) (flows_of r)
+service r s i = each_flow (λ f. times s.unit (served r i f) ∷ []) (flow_count r 0)
 
 -- sum (A_f(i) - L_f(i))
 abbrev pub accepted : Run → Factors → ℕ → List Term
-accepted r s i = each_flow (λ f. times s.unit (arrived r i f) ∷ times s.minus (lost r i f) ∷ []) (flows_of r)
+accepted r s i = each_flow (λ f. times s.unit (arrived r i f) ∷ times s.minus (lost r i f) ∷ []) (flow_count r 0)
 
 -- sum (L_f(i) - L_f(h)), h being the row before
 abbrev pub new_losses : Run → ℕ → ℕ → List Term
-new_losses r i h = each_flow (λ f. times (pos 1) (lost r i f) ∷ times (negsuc 0) (lost r h f) ∷ []) (flows_of r)
+new_losses r i h = each_flow (λ f. times (pos 1) (lost r i f) ∷ times (negsuc 0) (lost r h f) ∷ []) (flow_count r 0)
 
 -- the entry is 0; is at least 0; doesn't fall from x to y
 abbrev pub is_zero : ℤ → Claim

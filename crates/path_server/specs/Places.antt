@@ -3,8 +3,9 @@ use Rattle.std.specs.Prelude.{◌≡◌, ℕ, ◌+◌, Bool, true, false, Result
 use Rattle.whole.specs.declared.answers.Stuck.{Stuck}
 use Rattle.weighing.specs.First.{below, first}
 use Rattle.weighing.specs.Claim.{outcome}
+use Rattle.run_rows.specs.Runs.{flow_count}
 use Rattle.run_rows.specs.declared.rows.Run.{Run}
-use Rattle.path_server.specs.Claims.{claim_of, flows_of}
+use Rattle.path_server.specs.Claims.{claim_of}
 use Rattle.path_server.specs.Rules.{RuleHolds}
 use Rattle.path_server.specs.declared.settings.Path.{Path}
 use Rattle.path_server.specs.declared.admission.Admit.{Admit}
@@ -39,7 +40,7 @@ number WasteRate = 9
 
 -- the places of a rule at a row, of a row, and of the whole run, in their order
 unfoldable pub places_of_rule : Run → ℕ → PathRule → List Place
-places_of_rule r i rule = map (at_place i rule) (below (flows_of r + 1))
+places_of_rule r i rule = map (at_place i rule) (below (flow_count r 0 + 1))
 
 unfoldable pub places_of_row : Run → ℕ → List Place
 places_of_row r i = flat_map (places_of_rule r i) rules

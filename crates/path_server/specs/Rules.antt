@@ -2,9 +2,8 @@
 -- Both sides are measured in units of 1 / (over * unit), in which the multiples of the rate and of the buffer are whole.
 use Rattle.std.specs.Prelude.{◌≡◌, ℕ, zero, suc, ◌-◌, ◌<◌, ◌≤◌, ℤ, pos, ◌+ℤ◌, ◌-ℤ◌, ◌*ℤ◌, ◌≤ℤ◌, ◌<ℤ◌, Option, Some, None, length}
 use Rattle.whole.specs.declared.answers.Pair.{Pair}
-use Rattle.run_rows.specs.Runs.{arrived, lost, over_flows, served, waste}
+use Rattle.run_rows.specs.Runs.{arrived, flow_count, lost, over_flows, served, waste}
 use Rattle.run_rows.specs.declared.rows.Run.{Run}
-use Rattle.path_server.specs.Claims.{flows_of}
 use Rattle.path_server.specs.declared.settings.Path.{Path}
 use Rattle.path_server.specs.declared.path_rules.PathRule.{PathRule}
 use Rattle.path_server.specs.declared.path_rules.PathRule.TheVariants.{Start, Growth, Service, Ceiling, Floor, Waste, Acceptance, Buffer, Loss, WasteRate}
@@ -25,13 +24,13 @@ buffer p b = b.num *ℤ p.rate.den
 
 -- A(i) - L(i), S(i) and L(i), each summed over the flows
 abbrev pub all_accepted : Run → ℕ → ℤ
-all_accepted r i = over_flows (arrived r i) (flows_of r) -ℤ over_flows (lost r i) (flows_of r)
+all_accepted r i = over_flows (arrived r i) (flow_count r 0) -ℤ over_flows (lost r i) (flow_count r 0)
 
 abbrev pub all_served : Run → ℕ → ℤ
-all_served r i = over_flows (served r i) (flows_of r)
+all_served r i = over_flows (served r i) (flow_count r 0)
 
 abbrev pub all_lost : Run → ℕ → ℤ
-all_lost r i = over_flows (lost r i) (flows_of r)
+all_lost r i = over_flows (lost r i) (flow_count r 0)
 
 -- C*(i - d) + Q0 - W(max(i - d, 0)): the most that may have been served d rows before row i
 abbrev pub allowed : Path → Run → ℕ → ℕ → ℤ
@@ -81,4 +80,4 @@ RuleHolds p r WasteRate (suc i) (suc f) = Unit {0}
 
 -- the run is one that the path admits
 unfoldable pub Admitted : Path → Run → Type 0
-Admitted p r = (rule : PathRule) (i f : ℕ) → i < length r.rows → f ≤ flows_of r → RuleHolds p r rule i f
+Admitted p r = (rule : PathRule) (i f : ℕ) → i < length r.rows → f ≤ flow_count r 0 → RuleHolds p r rule i f

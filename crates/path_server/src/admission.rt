@@ -1,13 +1,11 @@
 ghost use Rattle.std.specs.Prelude.{◌≡◌, ◌<◌, ◌≤◌, ℕ, length};
 ghost use Rattle.whole.specs.declared.answers.Stuck.{Stuck};
-ghost use Rattle.run_rows.specs.Runs.{IsRun};
-ghost use Rattle.path_server.specs.Claims.{flows_of};
+ghost use Rattle.run_rows.specs.Runs.{IsRun, flow_count};
 ghost use Rattle.path_server.specs.Limits.{IsPath};
 ghost use Rattle.path_server.specs.Places.{IsFirstBroken, IsFirstWide, NothingPasses, admission, at_place, examined, places, places_of_row, places_of_rule};
 ghost use Rattle.path_server.specs.Rules.{Admitted};
 ghost use Rattle.weighing.specs.First.{first};
 
-use crate::entries::{flow_count, row_count};
 use crate::path_rules::PathRule;
 use crate::settings::Path;
 use run_rows::Run;
@@ -46,7 +44,7 @@ fn examine(path: &Path, run: &Run) -> Result<(), Admit>
     requires run_in { IsRun run.now }
     ensures { result ≡ first (examined path.now run.now) (places run.now) }
 {
-    for row in 0..row_count(run) {
+    for row in 0..run.row_count() {
         examine_row(path, run, row)?;
     }
     Ok(())
@@ -73,7 +71,7 @@ fn examine_rule(path: &Path, run: &Run, rule: PathRule, row: u32) -> Result<(), 
     requires row_in { row < length run.now.rows }
     ensures { result ≡ first (examined path.now run.now) (places_of_rule run.now row rule) }
 {
-    for flow in 0..flow_count(run) + 1 {
+    for flow in 0..run.flow_count() + 1 {
         examine_place(path, run, rule, row, flow)?;
     }
     Ok(())
@@ -85,7 +83,7 @@ fn examine_place(path: &Path, run: &Run, rule: PathRule, row: u32, flow: u32) ->
     requires path_in { IsPath path.now }
     requires run_in { IsRun run.now }
     requires row_in { row < length run.now.rows }
-    requires flow_in { flow ≤ flows_of run.now }
+    requires flow_in { flow ≤ flow_count run.now 0 }
     ensures { result ≡ examined path.now run.now (at_place row rule flow) }
 {
     match rule.outcome(path, run, row, flow) {

@@ -1,10 +1,9 @@
 //! The rules that compare the entries of one flow, or the waste, with each other: no rate and no buffer is in them.
 ghost use Rattle.std.specs.Prelude.{◌≡◌, ◌<◌, ◌≤◌, ◌-◌, length};
-ghost use Rattle.run_rows.specs.Runs.{IsEntry, IsRun, waste};
+ghost use Rattle.run_rows.specs.Runs.{IsEntry, IsRun, flow_count, waste};
 ghost use Rattle.weighing.specs.Claim.{both_of, outcome};
-ghost use Rattle.path_server.specs.Claims.{acceptance_claim, flows_of, growth_claim, is_zero, no_fall, not_negative, service_claim, start_claim};
+ghost use Rattle.path_server.specs.Claims.{acceptance_claim, growth_claim, is_zero, no_fall, not_negative, service_claim, start_claim};
 
-use crate::entries::{entries, waste};
 use run_rows::{FlowRow, Run};
 use weighing::{Rel5, Term, both, compare};
 use whole::Stuck;
@@ -14,7 +13,7 @@ use whole::Stuck;
 pub fn start(run: &Run, row: u32, flow: u32) -> Result<bool, Stuck>
     requires run_in { IsRun run.now }
     requires row_in { row < length run.now.rows }
-    requires flow_in { flow ≤ flows_of run.now }
+    requires flow_in { flow ≤ flow_count run.now 0 }
     ensures { result ≡ outcome row (start_claim run.now row flow) }
 {
     if row > 0 {
@@ -23,7 +22,7 @@ pub fn start(run: &Run, row: u32, flow: u32) -> Result<bool, Stuck>
     if flow == 0 {
         return path_starts_empty(run);
     }
-    flow_starts_empty(entries(run, 0, flow))
+    flow_starts_empty(run.flow(0, flow))
 }
 
 fn path_starts_empty(run: &Run) -> Result<bool, Stuck>
@@ -31,7 +30,7 @@ fn path_starts_empty(run: &Run) -> Result<bool, Stuck>
     requires row_in { 0 < length run.now.rows }
     ensures { result ≡ outcome 0 (both_of (is_zero (waste run.now 0)) (not_negative run.now.credit)) }
 {
-    let wasted = compare(0, &[Term(1, waste(run, 0))], Rel5::Equal);
+    let wasted = compare(0, &[Term(1, run.waste(0))], Rel5::Equal);
     let credit = compare(0, &[Term(1, run.credit)], Rel5::AtLeast);
     both(wasted, credit)
 }
@@ -53,7 +52,7 @@ fn flow_starts_empty(now: &FlowRow) -> Result<bool, Stuck>
 pub fn growth(run: &Run, row: u32, flow: u32) -> Result<bool, Stuck>
     requires run_in { IsRun run.now }
     requires row_in { row < length run.now.rows }
-    requires flow_in { flow ≤ flows_of run.now }
+    requires flow_in { flow ≤ flow_count run.now 0 }
     ensures { result ≡ outcome row (growth_claim run.now row flow) }
 {
     if row == 0 {
@@ -62,7 +61,7 @@ pub fn growth(run: &Run, row: u32, flow: u32) -> Result<bool, Stuck>
     if flow == 0 {
         return path_grows(run, row);
     }
-    flow_grows(row, entries(run, row - 1, flow), entries(run, row, flow))
+    flow_grows(row, run.flow(row - 1, flow), run.flow(row, flow))
 }
 
 fn path_grows(run: &Run, row: u32) -> Result<bool, Stuck>
@@ -71,7 +70,7 @@ fn path_grows(run: &Run, row: u32) -> Result<bool, Stuck>
     requires row_in { row < length run.now.rows }
     ensures { result ≡ outcome row (no_fall (waste run.now (row - 1)) (waste run.now row)) }
 {
-    let terms = [Term(1, waste(run, row)), Term(-1, waste(run, row - 1))];
+    let terms = [Term(1, run.waste(row)), Term(-1, run.waste(row - 1))];
     compare(row, &terms, Rel5::AtLeast)
 }
 
@@ -95,13 +94,13 @@ fn flow_grows(row: u32, old: &FlowRow, new: &FlowRow) -> Result<bool, Stuck>
 pub fn service(run: &Run, row: u32, flow: u32) -> Result<bool, Stuck>
     requires run_in { IsRun run.now }
     requires row_in { row < length run.now.rows }
-    requires flow_in { flow ≤ flows_of run.now }
+    requires flow_in { flow ≤ flow_count run.now 0 }
     ensures { result ≡ outcome row (service_claim run.now row flow) }
 {
     if flow == 0 {
         return Ok(true);
     }
-    let now = entries(run, row, flow);
+    let now = run.flow(row, flow);
     compare(
         row,
         &[Term(1, now.a), Term(-1, now.l), Term(-1, now.s)],
@@ -114,13 +113,13 @@ pub fn service(run: &Run, row: u32, flow: u32) -> Result<bool, Stuck>
 pub fn acceptance(run: &Run, row: u32, flow: u32) -> Result<bool, Stuck>
     requires run_in { IsRun run.now }
     requires row_in { row < length run.now.rows }
-    requires flow_in { flow ≤ flows_of run.now }
+    requires flow_in { flow ≤ flow_count run.now 0 }
     ensures { result ≡ outcome row (acceptance_claim run.now row flow) }
 {
     if row == 0 || flow == 0 {
         return Ok(true);
     }
-    let (old, new) = (entries(run, row - 1, flow), entries(run, row, flow));
+    let (old, new) = (run.flow(row - 1, flow), run.flow(row, flow));
     compare(
         row,
         &[

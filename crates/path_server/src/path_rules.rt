@@ -46,9 +46,9 @@ impl PathRule {
 
 impl PathRule {
     ghost use Rattle.std.specs.Prelude.{◌≡◌, ◌<◌, ◌≤◌, length};
-    ghost use Rattle.run_rows.specs.Runs.{IsRun};
+    ghost use Rattle.run_rows.specs.Runs.{IsRun, flow_count};
     ghost use Rattle.weighing.specs.Claim.{outcome};
-    ghost use Rattle.path_server.specs.Claims.{claim_of, flows_of};
+    ghost use Rattle.path_server.specs.Claims.{claim_of};
     ghost use Rattle.path_server.specs.Limits.{IsPath};
     ghost use Rattle.path_server.specs.Places.{number};
 
@@ -76,7 +76,7 @@ impl PathRule {
         requires path_in { IsPath path.now }
         requires run_in { IsRun run.now }
         requires row_in { row < length run.now.rows }
-        requires flow_in { flow ≤ flows_of run.now }
+        requires flow_in { flow ≤ flow_count run.now 0 }
         ensures { result ≡ outcome row (claim_of path.now run.now self row flow) }
     {
         match self {

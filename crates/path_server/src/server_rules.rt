@@ -5,9 +5,7 @@ ghost use Rattle.weighing.specs.Claim.{outcome};
 ghost use Rattle.path_server.specs.Claims.{buffer_claim, ceiling_claim, floor_claim, full_or_none, loss_claim, queue_fits, queue_was_full, waste_claim, waste_rate_claim};
 ghost use Rattle.path_server.specs.Limits.{IsNumber, IsPath};
 
-use crate::entries::{
-    plus_accepted, plus_allowance, plus_new_losses, plus_room, plus_service, waste as wasted,
-};
+use crate::entries::{plus_accepted, plus_allowance, plus_new_losses, plus_room, plus_service};
 use crate::scales::Scale;
 use crate::settings::Path;
 use run_rows::Run;
@@ -59,7 +57,7 @@ pub fn waste(path: &Path, run: &Run, row: u32, flow: u32) -> Result<bool, Stuck>
     if row == 0 || flow > 0 {
         return Ok(true);
     }
-    let terms = [Term(1, wasted(run, row)), Term(-1, wasted(run, row - 1))];
+    let terms = [Term(1, run.waste(row)), Term(-1, run.waste(row - 1))];
     let none = compare(row, &terms, Rel5::AtMost);
     let scale = Scale::of_rate(path);
     let opposite = scale.opposite();
@@ -147,8 +145,8 @@ pub fn waste_rate(path: &Path, run: &Run, row: u32, flow: u32) -> Result<bool, S
     let scale = Scale::of_rate(path);
     let terms = [
         Term(path.rate.num, run.over),
-        Term(scale.minus, wasted(run, row)),
-        Term(scale.unit, wasted(run, row - 1)),
+        Term(scale.minus, run.waste(row)),
+        Term(scale.unit, run.waste(row - 1)),
     ];
     compare(row, &terms, Rel5::AtLeast)
 }

@@ -142,9 +142,9 @@ too_many_walks a lines end named = ap (λ (b : Bool). cond b (Err (refusal 9 a.l
 
 assumes_first_walks : (end : ℕ) {room : ℕ} {lines : List Ahead} {r : Refusal} → FirstOfAssumes end room lines r → assumes_walk room lines end ≡ Err r
 assumes_first_walks end (too_many {a} {lines} {tokens} is) = too_many_walks a lines end (says_front (codes "assume") a.tokens tokens is)
-assumes_first_walks end (at_one {room} {a} {lines} {tokens} {n} is stops) =
+assumes_first_walks end (at_one {room} {a} {lines} {tokens} {n} is value) =
     one_assume room a lines end (says_front (codes "assume") a.tokens tokens is)
-    ∙ ap (λ r. r >>= λ t. assumes_walk room t.lines t.end) (line_stops assume_kind a.line lines end (subst (λ (ts : List Token). LineStops assume_kind ts n) (sym is) (malformed stops)))
+    ∙ ap (λ r. r >>= λ t. assumes_walk room t.lines t.end) (line_stops assume_kind a.line lines end (subst (λ (ts : List Token). LineStops assume_kind ts n) (sym is) (malformed value)))
 assumes_first_walks end (behind_one {room} {a} {lines} is others) =
     one_assume room a lines end (says_front (codes "assume") a.tokens is.front is.tokens_are)
     ∙ ap (λ r. r >>= λ t. assumes_walk room t.lines t.end) (line_goes assume_kind a lines end is) ∙ assumes_first_walks end others

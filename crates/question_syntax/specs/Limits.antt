@@ -8,7 +8,8 @@ use Rattle.condition_syntax.specs.declared.expressions.Expr.{Expr}
 use Rattle.condition_syntax.specs.declared.expressions.ETerm.{ETerm}
 use Rattle.condition_syntax.specs.declared.expressions.Name.{Name}
 use Rattle.path_server.specs.Limits.{IsSetting}
-use Rattle.ctrl_syntax.specs.Limits.{IsNameText, CondExprs, CondDelays, nesting}
+use Rattle.condition_syntax.specs.Limits.{EachExpr, EachDelay}
+use Rattle.ctrl_syntax.specs.Limits.{IsNameText, nesting}
 use Rattle.question_syntax.specs.Sections.{Wanted, Sections}
 
 -- a name in an expression; the credit alone may lack its step
@@ -36,8 +37,8 @@ NoDelay q = ⊥
 pub record IsPlacedCondition (c : Condition) : Type 0 where
   pub few : comparisons c ≤ 16
   pub shallow : nesting c ≤ 16
-  pub each_expr : CondExprs IsPlacedExpr c
-  pub no_delay : CondDelays NoDelay c
+  pub each_expr : EachExpr IsPlacedExpr c
+  pub no_delay : EachDelay NoDelay c
 
 abbrev pub IsWanted : Wanted → Type 0
 IsWanted w = IsPlacedCondition w.cond

@@ -132,10 +132,8 @@ fn assumes(alloc: Global, rest: &mut Rest<'_>) -> Result<Items<ConditionLine>, R
         if assumes.len() == ASSUME_LIMIT {
             return Err(ReadFault::Refused(refusal(9, rest.number())));
         }
-        match condition_line(alloc, rest, b"assume") {
-            Ok(assume) => assumes.push(assume)?,
-            Err(fault) => return Err(fault),
-        }
+        let assume = condition_line(alloc, rest, b"assume")?;
+        assumes.push(assume)?;
     }
     Ok(assumes)
 }

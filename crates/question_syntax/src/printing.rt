@@ -88,10 +88,7 @@ fn put_assumes(
     ensures { OnOk result (out.new.items ≡ out.old.items ++ flat_map (line_text (wanted_text (codes "assume "))) (all_wanted_of assumes.now)) }
 {
     for assume in assumes {
-        match put_wanted(alloc, out, b"assume ", assume) {
-            Ok(()) => {}
-            Err(fault) => return Err(fault),
-        }
+        put_wanted(alloc, out, b"assume ", assume)?;
     }
     Ok(())
 }

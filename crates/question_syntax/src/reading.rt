@@ -51,10 +51,7 @@ pub fn read_setting(alloc: Global, bytes: &[u8]) -> Result<Setting, ReadFault>
     ensures first { (r : Refusal) → IsRefused bytes.now r → GivesSeenUnless (λ setting. setting) result (Err r) }
     ensures limits { IfOk result IsSetting }
 {
-    match read_syntax(alloc, bytes) {
-        Ok(syntax) => Ok(syntax.setting),
-        Err(fault) => Err(fault),
-    }
+    Ok(read_syntax(alloc, bytes)?.setting)
 }
 
 #[tactic(auto, unfolding(crate::specs::Reading::text_of))]

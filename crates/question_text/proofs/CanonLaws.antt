@@ -1,8 +1,7 @@
 -- Canonical names: what they stand for, and the conditions that they stand in.
-use Rattle.std.proofs.Common.{◌≡◌, ℕ, zero, suc, ◌≤◌, Bool, true, false, cond, ◌⊎◌, inl, inr, Option, Some, None, List, [], ◌∷◌, map, refl, sym, ap, subst, ◌∙◌, arith}
+use Rattle.std.proofs.Common.{◌≡◌, ℕ, zero, suc, ◌≤◌, Bool, true, false, cond, ◌⊎◌, inl, inr, Option, Some, None, List, ◌∷◌, map, refl, sym, ap, subst, ◌∙◌, arith}
 use Rattle.std.specs.Prelude.{codes, nat_eq, slice_get, unwrap_or}
-use Rattle.std.specs.Option.{option_map, option_and_then}
-use Rattle.std.specs.Str.{bytes_eq}
+use Rattle.std.specs.Option.{option_map}
 use Rattle.std.proofs.lemmas.Grind.{common_steps}
 use Rattle.path_server.specs.declared.settings.Setting.{Setting}
 use Rattle.condition_syntax.specs.Trees as written
@@ -10,17 +9,17 @@ use Rattle.condition_syntax.specs.declared.expressions.Name.{Name}
 use Rattle.condition_syntax.specs.declared.expressions.ETerm.{ETerm}
 use Rattle.ctrl_types.specs.declared.controllers.State.{State}
 use Rattle.question_text.specs.declared.conditions.Of.{Of}
-use Rattle.question_text.specs.declared.conditions.Of.TheVariants.{One, Credit, W, A, S, L, X}
+use Rattle.question_text.specs.declared.conditions.Of.TheVariants.{One, Credit, W, X}
 use Rattle.question_text.specs.declared.conditions.QTerm.{QTerm}
 use Rattle.question_text.specs.declared.names.Count.{Count}
 use Rattle.question_text.specs.declared.names.Count.TheVariants.{Arrived, Served, Lost}
 use Rattle.question_text.specs.Conditions.{Condition}
-use Rattle.question_text.specs.Naming.{IsFlow, IsStateWord, StandsFor, credit, waste, all_counted, counted, only_state, own_state, count_named, count_of, count_or_state, credit_of, entry_of, flow_in, flow_or_all, flow_or_only, flow_written, name_of, of_named, of_written, own_flow_written, state_named, state_text, state_value_of, step_in, term_written, lin_written, waste_of, text_of}
+use Rattle.question_text.specs.Naming.{StandsFor, credit, waste, all_counted, counted, only_state, own_state, entry_of, flow_written, name_of, of_named, of_written, own_flow_written, state_named, state_text, term_written, lin_written, text_of}
 use Rattle.question_text.specs.Texts.{condition_written}
 use Rattle.question_text.proofs.MeaningLaws as meaning
 use Rattle.question_text.proofs.MeaningLaws.{AreFound, Means}
-use Rattle.question_text.proofs.NameLaws.{flow_again, name_taken, same_text, step_again}
-use Rattle.question_text.proofs.QuestionLimits.{AtPlace, named_at}
+use Rattle.question_text.proofs.NameLaws.{count_word, counted_word, name_again, name_taken, same_text, word_counted}
+use Rattle.question_text.proofs.QuestionLimits.{named_at}
 use Rattle.question_text.proofs.Respelling.{cond_by, term_by, without_flow}
 
 abbrev name : List ℕ → Option ℕ → Option ℕ → Name
@@ -30,25 +29,6 @@ name w f t = record { text = w; flow = f; step = t }
 name_is : (x : Name) (w : List ℕ) (f t : Option ℕ) → x.text ≡ w → x.flow ≡ f → x.step ≡ t → name w f t ≡ x
 name_is x w f t one two three =
     ap (λ (v : List ℕ). name v f t) (sym one) ∙ ap (λ (g : Option ℕ). name x.text g t) (sym two) ∙ ap (name x.text x.flow) (sym three)
-
-count_word : Count → List ℕ
-count_word Arrived = codes "A"
-count_word Served = codes "S"
-count_word Lost = codes "L"
-
-counted_word : (w : List ℕ) (count : Count) → count_named w ≡ Some count → w ≡ count_word count
-unfolding count_named count_word
-counted_word w count e = by (bytes_eq w (codes "A")) (bytes_eq w (codes "S")) (bytes_eq w (codes "L")) refl refl refl e
-  where
-    same : (k l : Count) → Some k ≡ Some l → k ≡ l
-    same k l e = cc
-
-    by : (a b d : Bool) → bytes_eq w (codes "A") ≡ a → bytes_eq w (codes "S") ≡ b → bytes_eq w (codes "L") ≡ d
-        → cond a (Some Arrived) (cond b (Some Served) (cond d (Some Lost) None)) ≡ Some count → w ≡ count_word count
-    by true b d p q r e = same_text w (codes "A") p ∙ ap count_word (same Arrived count e)
-    by false true d p q r e = same_text w (codes "S") q ∙ ap count_word (same Served count e)
-    by false false true p q r e = same_text w (codes "L") r ∙ ap count_word (same Lost count e)
-    by false false false p q r e = absurd (cc)
 
 module _ (states : List State) (s : Setting) where
   -- what is named so, and names the same
@@ -64,36 +44,9 @@ module _ (states : List State) (s : Setting) where
   entry_name Served f t = refl
   entry_name Lost f t = refl
 
-  counted_again : (count : Count) (f : Option ℕ) (t : ℕ) → of_named states s (name (count_word count) f (Some t)) ≡ count_of s count (name (count_word count) f (Some t))
-  unfolding of_named count_named count_word
-  counted_again Arrived f t = refl
-  counted_again Served f t = refl
-  counted_again Lost f t = refl
-
-  count_all : (count : Count) (w : List ℕ) (t : ℕ) → t ≤ s.steps → count_of s count (name w None (Some t)) ≡ Some (entry_of count 0 t)
-  unfolding count_of flow_or_all
-  count_all count w t to = ap (option_map (entry_of count 0)) (step_again s t to)
-
-  count_one : (count : Count) (w : List ℕ) (f t : ℕ) → IsFlow s f → t ≤ s.steps → count_of s count (name w (Some f) (Some t)) ≡ Some (entry_of count f t)
-  unfolding count_of flow_or_all
-  count_one count w f t flow to =
-      ap (option_and_then (λ g. option_map (entry_of count g) (step_in s (Some t)))) (flow_again s f flow) ∙ ap (option_map (entry_of count f)) (step_again s t to)
-
   flow_is_written : (f : ℕ) → 1 ≤ f → flow_written f ≡ Some f
   flow_is_written zero from = absurd (omega arith)
   flow_is_written (suc f) from = refl
-
-  -- a state by its name
-  state_again : (w : List ℕ) (f : Option ℕ) (g j t : ℕ) → IsStateWord w → state_named states w ≡ Some j → flow_or_only s f ≡ Some g → t ≤ s.steps
-      → of_named states s (name w f (Some t)) ≡ Some (X j g t)
-  unfolding of_named state_value_of
-  state_again w f g j t own named flow to =
-      ap (λ (b : Bool). cond b (credit_of (name w f (Some t))) (cond (bytes_eq w (codes "W")) (waste_of s (name w f (Some t))) (count_or_state states s (name w f (Some t)) (count_named w)))) own.no_credit
-      ∙ ap (λ (b : Bool). cond b (waste_of s (name w f (Some t))) (count_or_state states s (name w f (Some t)) (count_named w))) own.no_waste
-      ∙ ap (count_or_state states s (name w f (Some t))) own.no_count
-      ∙ ap (option_and_then (λ i. option_and_then (λ h. option_map (X i h) (step_in s (Some t))) (flow_or_only s f))) named
-      ∙ ap (option_and_then (λ h. option_map (X j h) (step_in s (Some t)))) flow
-      ∙ ap (option_map (X j g)) (step_again s t to)
 
   state_text_is : (w : List ℕ) (j : ℕ) → state_named states w ≡ Some j → state_text states j ≡ w
   unfolding state_text
@@ -101,22 +54,6 @@ module _ (states : List State) (s : Setting) where
       let here = named_at states w j e in
       let at : j ≡ here.place = here.at ∙ omega arith in
       ap (λ (k : ℕ). text_of (slice_get states k)) at ∙ ap text_of here.is ∙ same_text here.value.name w here.passes
-
-  only_flow : s.flows ≡ 1 → flow_or_only s None ≡ Some 1
-  unfolding flow_or_only
-  only_flow one = ap (λ (n : ℕ). cond (nat_eq n 1) (Some 1) None) one
-
-  own_flow : (f : ℕ) → IsFlow s f → flow_or_only s (Some f) ≡ Some f
-  unfolding flow_or_only
-  own_flow f is = flow_again s f is
-
-  credit_again : of_named states s (name (codes "credit") None None) ≡ Some Credit
-  unfolding of_named credit_of
-  credit_again = refl
-
-  waste_again : (t : ℕ) → t ≤ s.steps → of_named states s (name (codes "W") None (Some t)) ≡ Some (W t)
-  unfolding of_named waste_of
-  waste_again t to = ap (option_map W) (step_again s t to)
 
   waste_name : (t : ℕ) → name_of states s (W t) ≡ Some (name (codes "W") None (Some t))
   unfolding name_of
@@ -147,31 +84,31 @@ module _ (states : List State) (s : Setting) where
     made = name (codes "credit") None None;
     is = credit_name;
     short = inl (name_is x (codes "credit") None None text flow step);
-    same = credit_again;
+    same = name_again states s (name (codes "credit") None None) Credit (credit refl refl refl);
   }
   canonical x of (waste {t} text flow step to) = record {
     made = name (codes "W") None (Some t);
     is = waste_name t;
     short = inl (name_is x (codes "W") None (Some t) text flow step);
-    same = waste_again t to;
+    same = name_again states s (name (codes "W") None (Some t)) (W t) (waste refl refl refl to);
   }
   canonical x of (all_counted {count} {t} text flow step to) = record {
     made = name (count_word count) None (Some t);
     is = entry_name count 0 t;
     short = inl (name_is x (count_word count) None (Some t) (counted_word x.text count text) flow step);
-    same = counted_again count None t ∙ count_all count (count_word count) t to;
+    same = name_again states s (name (count_word count) None (Some t)) (entry_of count 0 t) (all_counted (word_counted count) refl refl to);
   }
   canonical x of (counted {count} {f} {t} text flow within step to) = record {
     made = name (count_word count) (Some f) (Some t);
     is = entry_name count f t ∙ ap (λ (g : Option ℕ). Some (name (count_word count) g (Some t))) (flow_is_written f within.from);
     short = inl (name_is x (count_word count) (Some f) (Some t) (counted_word x.text count text) flow step);
-    same = counted_again count (Some f) t ∙ count_one count (count_word count) f t within to;
+    same = name_again states s (name (count_word count) (Some f) (Some t)) (entry_of count f t) (counted (word_counted count) refl within refl to);
   }
   canonical x of (only_state {j} {t} own named flow only step to) = record {
     made = name x.text None (Some t);
     is = state_name j 1 t x.text None (state_text_is x.text j named) (unwritten 1 only);
     short = inl (name_is x x.text None (Some t) refl flow step);
-    same = state_again x.text None 1 j t own named (only_flow only) to;
+    same = name_again states s (name x.text None (Some t)) (X j 1 t) (only_state own named refl only refl to);
   }
   canonical x of (own_state {j} {f} {t} own named flow within step to) = by (nat_eq s.flows 1) refl
     where
@@ -189,13 +126,14 @@ module _ (states : List State) (s : Setting) where
             made = name x.text None (Some t);
             is = state_name j f t x.text None (state_text_is x.text j named) (unwritten f only);
             short = inr (without_is x x.text (Some t) refl step);
-            same = state_again x.text None f j t own named (only_flow only ∙ ap (λ (n : ℕ). Some n) first) to;
+            same = subst (λ (n : ℕ). of_named states s (name x.text None (Some t)) ≡ Some (X j n t)) first
+                (name_again states s (name x.text None (Some t)) (X j 1 t) (only_state own named refl only refl to));
           }
       by false p = record {
         made = name x.text (Some f) (Some t);
         is = state_name j f t x.text (Some f) (state_text_is x.text j named) (several f p);
         short = inl (name_is x x.text (Some f) (Some t) refl flow step);
-        same = state_again x.text (Some f) f j t own named (own_flow f within) to;
+        same = name_again states s (name x.text (Some f) (Some t)) (X j f t) (own_state own named refl within refl to);
       }
 
   -- the canonical name of what the name stands for

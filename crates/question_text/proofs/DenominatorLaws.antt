@@ -1,6 +1,6 @@
 -- The least common multiple of the denominators of conditions, number by number and part by part.
 use Rattle.std.proofs.Common.{◌≡◌, ℕ, ◌+◌, ◌<◌, ◌≤◌, Option, List, [], ◌∷◌, ◌++◌, length, map, get_or, drop, drop_of_length-le, refl, sym, ap, subst, ◌∙◌}
-use Rattle.std.specs.List.{flat_map, fold}
+use Rattle.std.specs.List.{flat_map}
 use Rattle.std.specs.Global.{Vec}
 use Rattle.weighing.specs.declared.scales.Num.{Num}
 use Rattle.condition_syntax.specs.Trees.{Condition, conjunction, disjunction, condition_of}
@@ -10,14 +10,9 @@ use Rattle.condition_syntax.specs.declared.expressions.ETerm.{ETerm}
 use Rattle.condition_syntax.proofs.TreeLaws.{condition_of-True, condition_of-False, condition_of-And, condition_of-Or}
 use Rattle.ctrl_types.specs.Denominators.{with_number, with_numbers}
 use Rattle.ctrl_types.specs.Statements.{coefs, condition_numbers}
+use Rattle.ctrl_types.proofs.DenominatorLaws.{numbers-append}
 use Rattle.question_text.specs.Resolution.{EachAsked, IsAsked}
 use Rattle.question_text.proofs.FoundLoop.{next_is}
-
--- the numbers of one list, and then those of another
-pub numbers-append : (s : Option ℕ) (xs ys : List Num) → with_numbers s (xs ++ ys) ≡ with_numbers (with_numbers s xs) ys
-unfolding with_numbers
-numbers-append s [] ys = refl
-numbers-append s (x ∷ xs) ys = numbers-append (with_number s x) xs ys
 
 -- ---- terms, one after another
 

@@ -2,6 +2,7 @@ pub mod ExampleLimits
 pub mod Laws
 pub mod Readiness
 pub mod Scales
+pub mod SeenLaws
 pub mod Sums
 mod FoundLoop
 mod TreeLaws
@@ -13,6 +14,7 @@ mod LineAgreement
 mod NameLaws
 mod QuestionLimits
 mod TextLaws
+pub mod TellingLaws
 mod WritingLaws
 mod Respelling
 mod CanonLaws

@@ -1,5 +1,5 @@
 -- What is read of a line and what is asked of its statement end alike, and so do the whole text and all its statements.
-use Rattle.std.proofs.Common.{◌≡◌, ℕ, ◌+◌, ◌<◌, ◌≤◌, Bool, true, false, Option, Some, None, Result, Ok, Err, List, [], ◌∷◌, ◌++◌, map, refl, sym, ap, subst, ◌∙◌, arith, append_assoc}
+use Rattle.std.proofs.Common.{◌≡◌, ℕ, Bool, true, false, Option, Some, None, Result, Ok, Err, List, [], ◌∷◌, ◌++◌, map, refl, sym, ap, subst, ◌∙◌, arith, append_assoc}
 use Rattle.std.specs.Prelude.{All, is_none, unsigned_abs, nat_lt}
 use Rattle.std.specs.List.{fold}
 use Rattle.std.proofs.lemmas.Int.{ints}
@@ -15,7 +15,7 @@ use Rattle.weighing.specs.declared.scales.Num.{Num}
 use Rattle.path_server.specs.declared.settings.Setting.{Setting}
 use Rattle.path_server.specs.Limits.{IsNumber, IsBuffer, IsSetting}
 use Rattle.condition_syntax.specs.Trees as written
-use Rattle.ctrl_syntax.specs.Limits.{CondExprs}
+use Rattle.condition_syntax.specs.Limits.{EachExpr}
 use Rattle.question_syntax.specs.Limits.{IsPlacedExpr, IsPlacedTerm}
 use Rattle.condition_syntax.specs.declared.expressions.ETerm.{ETerm}
 use Rattle.ctrl_types.specs.Denominators.{IsScale, with_numbers}
@@ -27,7 +27,7 @@ use Rattle.question_syntax.specs.Reading.{refusal}
 use Rattle.question_syntax.specs.Sections.{Sections, Wanted}
 use Rattle.question_text.specs.Conditions.{Condition}
 use Rattle.question_text.specs.Naming.{each_found, in_front}
-use Rattle.question_text.specs.Resolving.{Resolves, Saying, SeenQuestion, Statement, path, wanted as wanted_saying, against, buffer_numbers, judged, line_of, meant, mixed_sides, number_of, numbers, passes_limit, placed, sayings, statements, unknown_sides}
+use Rattle.question_text.specs.Resolving.{Saying, SeenQuestion, Statement, path, wanted as wanted_saying, against, buffer_numbers, judged, line_of, meant, mixed_sides, number_of, numbers, passes_limit, placed, sayings, statements, unknown_sides}
 use Rattle.question_text.specs.Resolution.{IsAsked, mixes, numbers_by, resolved_by, wanted, wanted_by, wanteds_by}
 use Rattle.question_text.proofs.MeaningLaws.{kinds_mix, means_it, unknown_is}
 
@@ -84,7 +84,7 @@ module _ (c : Controller) where
   coefs_are : (terms : List ETerm) → All IsPlacedTerm terms → All IsNum (coefs terms)
   coefs_are terms each = All-map IsNum (λ (t : ETerm). t.coef) terms (λ k d inside. (each k d inside).coef)
 
-  pub condition_nums : (w : written.Condition) → CondExprs IsPlacedExpr w → All IsNum (condition_numbers w)
+  pub condition_nums : (w : written.Condition) → EachExpr IsPlacedExpr w → All IsNum (condition_numbers w)
   condition_nums written.always each = All-nil IsNum
   condition_nums written.never each = All-nil IsNum
   condition_nums (written.comparison left rel right) each = All-append IsNum (coefs left.terms) (coefs right.terms) (coefs_are left.terms each.0.each_term) (coefs_are right.terms each.1.each_term)

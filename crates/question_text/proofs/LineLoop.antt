@@ -1,7 +1,7 @@
 -- The lines of assumptions, one after another: what came before, and what is still to come.
 use Rattle.std.proofs.Common.{◌≡◌, ℕ, ◌+◌, ◌<◌, ◌≤◌, Result, Ok, Err, List, [], ◌∷◌, ◌++◌, length, map, get_or, drop, drop_of_length-le, refl, sym, ap, ◌∙◌}
 use Rattle.std.proofs.lemmas.List.{append-nil, map-append}
-use Rattle.text_lines.specs.Steps.{◌>>=◌, Fails}
+use Rattle.text_lines.specs.Steps.{Fails}
 use Rattle.text_lines.proofs.StepLaws.{with_front, regroup}
 use Rattle.whole.specs.declared.answers.ReadFault.{ReadFault}
 use Rattle.whole.specs.declared.answers.ReadFault.TheVariants.{Refused, NoMemory}

@@ -1,5 +1,5 @@
 -- A condition whose names are known, and what stands in it.
-use Rattle.std.proofs.Common.{◌≡◌, ℕ, Bool, true, false, ◌||◌, ◌&&◌, Option, Some, None, List, [], ◌∷◌, ◌++◌, length, map, refl, sym, ap, subst, ◌∙◌, arith}
+use Rattle.std.proofs.Common.{◌≡◌, Bool, ◌||◌, Option, Some, None, List, [], ◌∷◌, length, map, refl, sym, ap, subst, ◌∙◌, arith}
 use Rattle.std.specs.Prelude.{is_none}
 use Rattle.std.specs.List.{list_any}
 use Rattle.std.specs.Option.{option_map, option_and_then}
@@ -7,12 +7,12 @@ use Rattle.weighing.specs.declared.scales.Num.{Num}
 use Rattle.weighing.specs.declared.weighings.Rel5.{Rel5}
 use Rattle.path_server.specs.declared.settings.Setting.{Setting}
 use Rattle.condition_syntax.specs.Trees as written
-use Rattle.ctrl_syntax.specs.Limits.{CondDelays}
+use Rattle.condition_syntax.specs.Limits.{EachDelay}
 use Rattle.question_syntax.specs.Limits.{NoDelay}
 use Rattle.condition_syntax.specs.declared.expressions.Expr.{Expr}
 use Rattle.condition_syntax.specs.declared.expressions.ETerm.{ETerm}
 use Rattle.ctrl_types.specs.Names.{is_kind}
-use Rattle.ctrl_types.specs.Statements.{any_comparison, coefs, condition_numbers}
+use Rattle.ctrl_types.specs.Statements.{any_comparison, coefs}
 use Rattle.ctrl_types.specs.declared.controllers.Kind.{Kind}
 use Rattle.ctrl_types.specs.declared.controllers.Kind.TheVariants.{Amount, Count}
 use Rattle.ctrl_types.specs.declared.controllers.State.{State}
@@ -138,7 +138,7 @@ module _ (states : List State) (s : Setting) where
   none_opposite (Some x) = refl
 
   -- a name is unknown where nothing is meant
-  pub unknown_is : (c : written.Condition) → CondDelays NoDelay c → any_comparison (unknown_sides states s) c ≡ is_none (meant states s c)
+  pub unknown_is : (c : written.Condition) → EachDelay NoDelay c → any_comparison (unknown_sides states s) c ≡ is_none (meant states s c)
   unfolding meant unknown_sides
   unknown_is written.always asked = refl
   unknown_is written.never asked = refl

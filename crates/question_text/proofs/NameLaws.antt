@@ -1,19 +1,18 @@
--- What names stand for: exactly what stands by the cases of the name; how it is named canonically.
-use Rattle.std.proofs.Common.{◌≡◌, ℕ, zero, suc, ◌+◌, ◌<◌, ◌≤◌, Bool, true, false, cond, Option, Some, None, List, [], ◌∷◌, length, refl, sym, ap, subst, ◌∙◌, arith}
-use Rattle.std.specs.Prelude.{codes, nat_le, ◌&&◌, nat_eq, slice_get, is_none}
-use Rattle.std.specs.List.{position_from}
+-- What names stand for: exactly what stands by the cases of the name.
+use Rattle.std.proofs.Common.{◌≡◌, ℕ, ◌≤◌, Bool, true, false, cond, Option, Some, None, List, refl, ap, subst, ◌∙◌, arith}
+use Rattle.std.specs.Prelude.{codes, nat_le, ◌&&◌, nat_eq, is_none}
 use Rattle.std.specs.Option.{option_map, option_and_then}
 use Rattle.std.specs.Str.{bytes_eq}
 use Rattle.std.proofs.lemmas.Grind.{common_steps}
 use Rattle.std.proofs.lemmas.Slice.Eq.{bytes_eq-Decides}
-use Rattle.std.proofs.lemmas.Option.{slice_get_within}
 use Rattle.path_server.specs.declared.settings.Setting.{Setting}
 use Rattle.condition_syntax.specs.declared.expressions.Name.{Name}
 use Rattle.ctrl_types.specs.declared.controllers.State.{State}
 use Rattle.question_text.specs.declared.conditions.Of.{Of}
-use Rattle.question_text.specs.declared.conditions.Of.TheVariants.{Credit, W, A, S, L, X}
+use Rattle.question_text.specs.declared.conditions.Of.TheVariants.{Credit, W, X}
 use Rattle.question_text.specs.declared.names.Count.{Count}
-use Rattle.question_text.specs.Naming.{IsFlow, IsStateWord, StandsFor, credit, waste, all_counted, counted, only_state, own_state, count_named, count_of, count_or_state, credit_of, entry_of, flow_in, flow_or_all, flow_or_only, has_name, of_named, state_named, state_value_of, step_in, waste_of}
+use Rattle.question_text.specs.declared.names.Count.TheVariants.{Arrived, Served, Lost}
+use Rattle.question_text.specs.Naming.{IsFlow, IsStateWord, StandsFor, credit, waste, all_counted, counted, only_state, own_state, count_named, count_of, count_or_state, credit_of, entry_of, flow_in, flow_or_all, flow_or_only, of_named, state_named, state_value_of, step_in, waste_of}
 
 -- ---- options
 
@@ -53,7 +52,7 @@ step_taken s (Some u) t e = by (nat_le u s.steps) refl e
     by true p q = let same : u ≡ t = cc in record { is = ap (λ (n : ℕ). Some n) same; to = subst (λ (n : ℕ). n ≤ s.steps) same (grind (arith, common_steps)) }
     by false p q = absurd (cc)
 
-pub step_again : (s : Setting) (t : ℕ) → t ≤ s.steps → step_in s (Some t) ≡ Some t
+step_again : (s : Setting) (t : ℕ) → t ≤ s.steps → step_in s (Some t) ≡ Some t
 unfolding step_in
 step_again s t to = let e : nat_le t s.steps ≡ true = grind (arith, common_steps) in ap (λ (b : Bool). cond b (Some t) None) e
 
@@ -71,13 +70,40 @@ flow_taken s f g e = by (nat_le 1 f) (nat_le f s.flows) refl refl e
     by true false p q e = absurd (cc)
     by false b p q e = absurd (cc)
 
-pub flow_again : (s : Setting) (f : ℕ) → IsFlow s f → flow_in s f ≡ Some f
+flow_again : (s : Setting) (f : ℕ) → IsFlow s f → flow_in s f ≡ Some f
 flow_again s f is =
     let from = is.from in
     let to = is.to in
     let one : nat_le 1 f ≡ true = grind (arith, common_steps) in
     let two : nat_le f s.flows ≡ true = grind (arith, common_steps) in
     ap (λ (b : Bool). cond (b && nat_le f s.flows) (Some f) None) one ∙ ap (λ (b : Bool). cond b (Some f) None) two
+
+-- ---- the words of what is counted
+
+unfoldable pub count_word : Count → List ℕ
+count_word Arrived = codes "A"
+count_word Served = codes "S"
+count_word Lost = codes "L"
+
+pub word_counted : (count : Count) → count_named (count_word count) ≡ Some count
+unfolding count_named count_word
+word_counted Arrived = refl
+word_counted Served = refl
+word_counted Lost = refl
+
+pub counted_word : (w : List ℕ) (count : Count) → count_named w ≡ Some count → w ≡ count_word count
+unfolding count_named count_word
+counted_word w count e = by (bytes_eq w (codes "A")) (bytes_eq w (codes "S")) (bytes_eq w (codes "L")) refl refl refl e
+  where
+    same : (k l : Count) → Some k ≡ Some l → k ≡ l
+    same k l e = cc
+
+    by : (a b d : Bool) → bytes_eq w (codes "A") ≡ a → bytes_eq w (codes "S") ≡ b → bytes_eq w (codes "L") ≡ d
+        → cond a (Some Arrived) (cond b (Some Served) (cond d (Some Lost) None)) ≡ Some count → w ≡ count_word count
+    by true b d p q r e = same_text w (codes "A") p ∙ ap count_word (same Arrived count e)
+    by false true d p q r e = same_text w (codes "S") q ∙ ap count_word (same Served count e)
+    by false false true p q r e = same_text w (codes "L") r ∙ ap count_word (same Lost count e)
+    by false false false p q r e = absurd (cc)
 
 -- ---- the cases of a name
 
@@ -152,3 +178,71 @@ module _ (states : List State) (s : Setting) (x : Name) where
       by false true c p q r e = waste_taken of (same_text x.text (codes "W") q) e
       by false false (Some count) p q r e = count_taken count of r e
       by false false None p q r e = state_taken of (record { no_credit = p; no_waste = q; no_count = r }) e
+
+  -- ---- what stands by its case is found
+
+  -- what a name of this text is looked up as
+  abbrev by_text : List ℕ → Option Of
+  by_text w = cond (bytes_eq w (codes "credit")) (credit_of x) (cond (bytes_eq w (codes "W")) (waste_of s x) (count_or_state states s x (count_named w)))
+
+  step_found : (t : ℕ) → x.step ≡ Some t → t ≤ s.steps → step_in s x.step ≡ Some t
+  step_found t step to = ap (step_in s) step ∙ step_again s t to
+
+  credit_again : x.text ≡ codes "credit" → x.flow ≡ None → x.step ≡ None → of_named states s x ≡ Some Credit
+  unfolding of_named credit_of
+  credit_again text flow step =
+      ap by_text text ∙ ap (λ (f : Option ℕ). cond (is_none f && is_none x.step) (Some Credit) None) flow
+      ∙ ap (λ (t : Option ℕ). cond (is_none t) (Some Credit) None) step
+
+  waste_again : (t : ℕ) → x.text ≡ codes "W" → x.flow ≡ None → step_in s x.step ≡ Some t → of_named states s x ≡ Some (W t)
+  unfolding of_named waste_of
+  waste_again t text flow step =
+      ap by_text text ∙ ap (λ (f : Option ℕ). cond (is_none f) (option_map W (step_in s x.step)) None) flow ∙ ap (option_map W) step
+
+  by_count : (count : Count) → by_text (count_word count) ≡ count_of s count x
+  unfolding count_named count_word
+  by_count Arrived = refl
+  by_count Served = refl
+  by_count Lost = refl
+
+  count_again : (count : Count) (f t : ℕ) → count_named x.text ≡ Some count → flow_or_all s x.flow ≡ Some f → step_in s x.step ≡ Some t
+      → of_named states s x ≡ Some (entry_of count f t)
+  unfolding of_named count_of
+  count_again count f t named flow step =
+      ap by_text (counted_word x.text count named) ∙ by_count count
+      ∙ ap (option_and_then (λ g. option_map (entry_of count g) (step_in s x.step))) flow ∙ ap (option_map (entry_of count f)) step
+
+  state_again : (j f t : ℕ) → IsStateWord x.text → state_named states x.text ≡ Some j → flow_or_only s x.flow ≡ Some f → step_in s x.step ≡ Some t
+      → of_named states s x ≡ Some (X j f t)
+  unfolding of_named state_value_of
+  state_again j f t own named flow step =
+      ap (λ (b : Bool). cond b (credit_of x) (cond (bytes_eq x.text (codes "W")) (waste_of s x) (count_or_state states s x (count_named x.text)))) own.no_credit
+      ∙ ap (λ (b : Bool). cond b (waste_of s x) (count_or_state states s x (count_named x.text))) own.no_waste
+      ∙ ap (count_or_state states s x) own.no_count
+      ∙ ap (option_and_then (λ i. option_and_then (λ g. option_map (X i g) (step_in s x.step)) (flow_or_only s x.flow))) named
+      ∙ ap (option_and_then (λ g. option_map (X j g) (step_in s x.step))) flow
+      ∙ ap (option_map (X j f)) step
+
+  all_flows : x.flow ≡ None → flow_or_all s x.flow ≡ Some 0
+  unfolding flow_or_all
+  all_flows flow = ap (flow_or_all s) flow
+
+  one_flow : (f : ℕ) → x.flow ≡ Some f → IsFlow s f → flow_or_all s x.flow ≡ Some f
+  unfolding flow_or_all
+  one_flow f flow is = ap (flow_or_all s) flow ∙ flow_again s f is
+
+  only_flow : x.flow ≡ None → s.flows ≡ 1 → flow_or_only s x.flow ≡ Some 1
+  unfolding flow_or_only
+  only_flow flow one = ap (flow_or_only s) flow ∙ ap (λ (n : ℕ). cond (nat_eq n 1) (Some 1) None) one
+
+  own_flow : (f : ℕ) → x.flow ≡ Some f → IsFlow s f → flow_or_only s x.flow ≡ Some f
+  unfolding flow_or_only
+  own_flow f flow is = ap (flow_or_only s) flow ∙ flow_again s f is
+
+  pub name_again : (of : Of) → StandsFor states s x of → of_named states s x ≡ Some of
+  name_again of (credit text flow step) = credit_again text flow step
+  name_again of (waste {t} text flow step to) = waste_again t text flow (step_found t step to)
+  name_again of (all_counted {count} {t} named flow step to) = count_again count 0 t named (all_flows flow) (step_found t step to)
+  name_again of (counted {count} {f} {t} named flow within step to) = count_again count f t named (one_flow f flow within) (step_found t step to)
+  name_again of (only_state {j} {t} own named flow only step to) = state_again j 1 t own named (only_flow flow only) (step_found t step to)
+  name_again of (own_state {j} {f} {t} own named flow within step to) = state_again j f t own named (own_flow f flow within) (step_found t step to)

@@ -1,18 +1,16 @@
 -- The printed text of a question that has a text is a text of it.
-use Rattle.std.proofs.Common.{◌≡◌, ℕ, Bool, true, false, Option, Some, None, Result, Ok, Err, List, [], ◌∷◌, ◌++◌, length, map, refl, sym, ap, subst, ◌∙◌, arith}
+use Rattle.std.proofs.Common.{◌≡◌, ℕ, Bool, true, false, Option, Some, None, Result, Ok, Err, List, [], ◌∷◌, ◌++◌, map, refl, sym, ap, subst, ◌∙◌, arith}
 use Rattle.std.specs.Prelude.{IfOk, codes, unsigned_abs}
 use Rattle.std.proofs.lemmas.List.{length-map}
 use Rattle.text_lines.specs.Steps.{◌>>=◌}
 use Rattle.text_lines.proofs.StepLaws.{bind_ok}
 use Rattle.whole.specs.declared.answers.Refusal.{Refusal}
-use Rattle.source_text.specs.Tokens.{Token, word}
+use Rattle.source_text.specs.Tokens.{word}
 use Rattle.source_text.specs.Shown.{Ahead}
 use Rattle.source_text.specs.Printed.{AreFromLine}
 use Rattle.weighing.specs.declared.scales.Num.{Num}
 use Rattle.path_server.specs.declared.settings.Setting.{Setting}
 use Rattle.condition_syntax.specs.Trees as written
-use Rattle.condition_syntax.specs.declared.conditions.Style.TheVariants.{Question}
-use Rattle.condition_syntax.specs.Grammar.{SpellsCond}
 use Rattle.ctrl_syntax.specs.Rest.{fronts}
 use Rattle.ctrl_syntax.specs.Grammar.{Each, none, one_more}
 use Rattle.ctrl_syntax.proofs.SectionTexts.{AreFromLines, fronts_from, from_parts}
@@ -21,8 +19,8 @@ use Rattle.ctrl_types.specs.Limits.{IsController}
 use Rattle.ctrl_types.specs.Statements.{condition_numbers}
 use Rattle.ctrl_types.specs.declared.controllers.Controller.{Controller}
 use Rattle.ctrl_types.specs.declared.controllers.State.{State}
-use Rattle.question_syntax.specs.Grammar.{IsText, Spells, SpellsLine, SpellsSetting, SpellsWanted}
-use Rattle.question_syntax.specs.Printed.{printed, SpellsAgain}
+use Rattle.question_syntax.specs.Grammar.{Spells, SpellsSetting, SpellsWanted}
+use Rattle.question_syntax.specs.Printed.{printed}
 use Rattle.question_syntax.specs.Sections.{Sections, Wanted, SameButLines, wanted_at}
 use Rattle.question_syntax.proofs.ConditionLimits.{question_within}
 use Rattle.question_syntax.proofs.Texts.{lines_printed}
@@ -30,7 +28,7 @@ use Rattle.question_text.specs.Conditions.{Condition}
 use Rattle.question_text.specs.Naming.{each_found, in_front}
 use Rattle.question_text.specs.Resolving.{SeenQuestion, against, buffer_numbers, meant, number_of}
 use Rattle.question_text.specs.Resolution.{mixes, numbers_by, resolved_by, wanted, wanted_by, wanteds_by}
-use Rattle.question_text.specs.Texts.{HasText, IsTextOf, condition_written, sections_written, wanted_written}
+use Rattle.question_text.specs.Texts.{HasText, IsTextOf, sections_written, wanted_written}
 use Rattle.question_text.proofs.CanonLaws.{canon, canon_short, condition_is_written, means_same}
 use Rattle.question_text.proofs.MeaningLaws.{means_it, meant_again}
 use Rattle.question_text.proofs.Respelling.{cond_by, condition_again, same_numbers}

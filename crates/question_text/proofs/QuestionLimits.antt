@@ -1,13 +1,13 @@
 -- What is resolved is within the limits of questions.
-use Rattle.std.proofs.Common.{◌≡◌, ℕ, zero, suc, ◌+◌, ◌<◌, ◌≤◌, Bool, true, false, cond, Option, Some, None, Result, Ok, List, [], ◌∷◌, ◌++◌, length, map, refl, sym, ap, subst, ◌∙◌, arith}
+use Rattle.std.proofs.Common.{◌≡◌, ℕ, suc, ◌+◌, ◌<◌, ◌≤◌, Bool, true, false, cond, Option, Some, None, List, [], ◌∷◌, ◌++◌, length, refl, sym, ap, subst, arith}
 use Rattle.std.specs.Prelude.{All, slice_get, unsigned_abs}
 use Rattle.std.specs.Int.{◌∣◌}
-use Rattle.std.specs.List.{fold, position_from}
-use Rattle.std.proofs.lemmas.List.Elements.{All-nil, All-cons, All-head, All-tail, All-append, All-map}
+use Rattle.std.specs.List.{position_from}
+use Rattle.std.proofs.lemmas.List.Elements.{All-nil, All-cons, All-head, All-tail, All-append}
 use Rattle.std.proofs.lemmas.List.{length-map}
 use Rattle.std.proofs.lemmas.Option.{slice_get_within}
 use Rattle.std.proofs.lemmas.Nat.Gcd.{le_of_dvd}
-use Rattle.weighing.specs.Scaled.{IsNum, common, den_of}
+use Rattle.weighing.specs.Scaled.{IsNum, den_of}
 use Rattle.weighing.specs.declared.scales.Num.{Num}
 use Rattle.path_server.specs.declared.settings.Setting.{Setting}
 use Rattle.path_server.specs.Limits.{IsSetting}
@@ -15,18 +15,18 @@ use Rattle.condition_syntax.specs.Trees as written
 use Rattle.condition_syntax.specs.declared.expressions.Name.{Name}
 use Rattle.condition_syntax.specs.declared.expressions.Expr.{Expr}
 use Rattle.condition_syntax.specs.declared.expressions.ETerm.{ETerm}
-use Rattle.ctrl_syntax.specs.Limits.{CondExprs}
+use Rattle.condition_syntax.specs.Limits.{EachExpr}
 use Rattle.ctrl_types.specs.Denominators.{IsScale}
 use Rattle.ctrl_types.specs.Statements.{coefs, condition_numbers}
 use Rattle.ctrl_types.specs.declared.controllers.Controller.{Controller}
 use Rattle.ctrl_types.specs.declared.controllers.State.{State}
 use Rattle.ctrl_types.proofs.DenominatorLaws.{multiple}
-use Rattle.question_syntax.specs.Limits.{IsPlacedExpr, IsPlacedTerm, IsQuestion as IsQuestionText}
+use Rattle.question_syntax.specs.Limits.{IsPlacedExpr, IsPlacedTerm}
 use Rattle.question_syntax.specs.Sections.{Sections, Wanted}
 use Rattle.question_text.specs.Conditions.{Condition, condition_of, conjunction}
 use Rattle.question_text.specs.Expressions.{AreCleared, Divides, HasNum, scale_of_two}
-use Rattle.question_text.specs.Limits.{IsCondition, IsComparison, IsFlowName, IsName, IsQuestion, IsTerm}
-use Rattle.question_text.specs.Naming.{IsFlow, StandsFor, credit, waste, all_counted, counted, only_state, own_state, each_found, entry_of, has_name, in_front, of_written, state_named}
+use Rattle.question_text.specs.Limits.{IsCondition, IsComparison, IsName, IsQuestion, IsTerm}
+use Rattle.question_text.specs.Naming.{StandsFor, credit, waste, all_counted, counted, only_state, own_state, each_found, entry_of, has_name, in_front, of_written, state_named}
 use Rattle.question_text.specs.Resolving.{SeenQuestion, meant, question_seen}
 use Rattle.question_text.specs.declared.conditions.Of.{Of}
 use Rattle.question_text.specs.declared.conditions.Of.TheVariants.{One}
@@ -35,7 +35,7 @@ use Rattle.question_text.specs.declared.conditions.QTerm.{QTerm}
 use Rattle.question_text.specs.declared.names.Count.{Count}
 use Rattle.question_text.specs.declared.names.Count.TheVariants.{Arrived, Served, Lost}
 use Rattle.question_text.specs.declared.questions.Question.{Question}
-use Rattle.question_text.proofs.LineAgreement.{AreLines, EachAskedWanted, IsLine, IsRead, IsTotal, all_numbers, conds, condition_nums, path_nums, path_numbers}
+use Rattle.question_text.proofs.LineAgreement.{EachAskedWanted, IsRead, all_numbers, conds, condition_nums, path_nums, path_numbers}
 use Rattle.question_text.proofs.MeaningLaws as meaning
 use Rattle.question_text.proofs.MeaningLaws.{AreFound, Means, found_length, found_numbers, means_it}
 use Rattle.question_text.proofs.NameLaws.{name_taken}
@@ -147,7 +147,7 @@ module _ (states : List State) (s : Setting) where
         let few_right = rights.terms_to in
         record { left_to = omega arith; right_to = omega arith; left_in = left_in; right_in = right_in; scale_to = omega arith }
 
-    pub condition_within : {c : written.Condition} {d : Condition} → Means states s c d → CondExprs IsPlacedExpr c → All (λ n. den_of n ∣ m) (condition_numbers c)
+    pub condition_within : {c : written.Condition} {d : Condition} → Means states s c d → EachExpr IsPlacedExpr c → All (λ n. den_of n ∣ m) (condition_numbers c)
         → IsCondition (length states) s d
     condition_within meaning.always placed cleared = tt
     condition_within meaning.never placed cleared = tt
@@ -198,7 +198,7 @@ all_nums c s [] asked = All-nil IsNum
 all_nums c s (w ∷ ws) asked = All-append IsNum (condition_numbers w.cond) (all_numbers c s ws) (condition_nums c w.cond asked.0.0) (all_nums c s ws asked.1)
 
 pub seen_within : (c : Controller) (t : Sections) (q : SeenQuestion) → IsScale (unsigned_abs c.den) → IsSetting t.setting → length t.assumes ≤ 16
-    → EachAskedWanted c t.setting t.assumes → CondExprs IsPlacedExpr t.require.cond → IsRead c t q → IsSeenQuestion (length c.states) q
+    → EachAskedWanted c t.setting t.assumes → EachExpr IsPlacedExpr t.require.cond → IsRead c t q → IsSeenQuestion (length c.states) q
 seen_within c t q scale set few assumed required read =
     let s : Setting = t.setting in
     let before : List Num = path_numbers c s ++ all_numbers c s t.assumes in

@@ -2,10 +2,9 @@
 use Rattle.std.proofs.Common.{◌≡◌, ℕ, ◌+◌, ◌-◌, ◌<◌, ◌≤◌, false, List, get_or, length, if◌then◌else◌, ◌∙◌, ap, arith}
 use Rattle.std.specs.Prelude.{All, nat_lt}
 use Rattle.std.proofs.lemmas.Bool.Decides.{nat_tests}
-use Rattle.run_rows.specs.Runs.{Fits, FlowFits, IsRun, flow_of, no_flow, state_count}
+use Rattle.run_rows.specs.Runs.{Fits, FlowFits, IsRun, flow_count, flow_of, no_flow, state_count}
 use Rattle.run_rows.specs.declared.rows.Run.{Run}
 use Rattle.run_rows.specs.declared.shapes.Shape.{Shape}
-use Rattle.path_server.specs.Claims.{flows_of}
 use Rattle.path_server.specs.Shapes.{shape_of}
 use Rattle.path_server.specs.declared.settings.Setting.{Setting}
 use Rattle.question_text.specs.Conditions.{Condition, always, never, comparison, opposite, end_of_all, all_of, end_of_any, any_of, condition_of}
@@ -34,7 +33,7 @@ states_there shape r i f fits from to later inside =
 -- the rows, flows and states that a question may name stand in the run
 record Standing (states : ℕ) (s : Setting) (r : Run) (at : Rows) : Type 0 where
   rows : (t : ℕ) → t ≤ s.steps → row_at at t < length r.rows
-  flows : flows_of r ≡ s.flows
+  flows : flow_count r 0 ≡ s.flows
   states_at : (f t : ℕ) → 1 ≤ f → f ≤ s.flows → t ≤ s.steps → length (flow_of r (row_at at t) f).x ≡ states
 
 at_most : (f n m : ℕ) → f ≤ n → m ≡ n → f ≤ m
@@ -48,14 +47,14 @@ name_ready states s r at One stand is = tt
 name_ready states s r at Credit stand is = tt
 name_ready states s r at (W t) stand is = stand.rows t is
 name_ready states s r at (A f t) stand is =
-    record { flow_to = at_most f s.flows (flows_of r) is.flow_to stand.flows; row_in = stand.rows t is.step_to }
+    record { flow_to = at_most f s.flows (flow_count r 0) is.flow_to stand.flows; row_in = stand.rows t is.step_to }
 name_ready states s r at (S f t) stand is =
-    record { flow_to = at_most f s.flows (flows_of r) is.flow_to stand.flows; row_in = stand.rows t is.step_to }
+    record { flow_to = at_most f s.flows (flow_count r 0) is.flow_to stand.flows; row_in = stand.rows t is.step_to }
 name_ready states s r at (L f t) stand is =
-    record { flow_to = at_most f s.flows (flows_of r) is.flow_to stand.flows; row_in = stand.rows t is.step_to }
+    record { flow_to = at_most f s.flows (flow_count r 0) is.flow_to stand.flows; row_in = stand.rows t is.step_to }
 name_ready states s r at (X j f t) stand is = record {
   flow_from = is.flow_from;
-  flow_to = at_most f s.flows (flows_of r) is.flow_to stand.flows;
+  flow_to = at_most f s.flows (flow_count r 0) is.flow_to stand.flows;
   row_in = stand.rows t is.step_to;
   state_in = below j states (length (flow_of r (row_at at t) f).x) is.state_in (stand.states_at f t is.flow_from is.flow_to is.step_to);
 }

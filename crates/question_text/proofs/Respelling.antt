@@ -1,14 +1,12 @@
 -- Conditions that are spelled with other names, which may lack their flow, are spelled by some of the same tokens.
-use Rattle.std.proofs.Common.{◌≡◌, ℕ, zero, suc, ◌+◌, ◌≤◌, Bool, ◌⊎◌, inl, inr, Option, Some, None, List, [], ◌∷◌, ◌++◌, length, map, refl, sym, ap, subst, ◌∙◌, arith}
+use Rattle.std.proofs.Common.{◌≡◌, ℕ, zero, suc, ◌+◌, Bool, ◌⊎◌, inl, inr, None, List, [], ◌∷◌, ◌++◌, map, refl, sym, ap, subst, ◌∙◌, arith}
 use Rattle.std.specs.Prelude.{codes}
-use Rattle.std.specs.List.{AllByRecursion}
 use Rattle.std.specs.Option.{option_map}
 use Rattle.std.proofs.lemmas.List.{length-map}
 use Rattle.source_text.specs.Tokens.{Token, word, number, sign}
 use Rattle.source_text.specs.declared.lexemes.Sign.TheVariants.{Minus, Open, Close, Times}
-use Rattle.source_text.specs.Printed.{AreFromLine, IsFromLine}
+use Rattle.source_text.specs.Printed.{AreFromLine}
 use Rattle.weighing.specs.declared.scales.Num.{Num}
-use Rattle.weighing.specs.declared.weighings.Rel5.{Rel5}
 use Rattle.condition_syntax.specs.declared.conditions.Style.TheVariants.{Question}
 use Rattle.condition_syntax.specs.declared.expressions.Name.{Name}
 use Rattle.condition_syntax.specs.declared.expressions.ETerm.{ETerm}

@@ -1,5 +1,5 @@
 -- What a text of a question gives, and what it is refused for.
-use Rattle.std.proofs.Common.{◌≡◌, ℕ, ◌≤◌, Option, Some, None, ◌⊎◌, inl, inr, Result, Ok, Err, List, [], ◌∷◌, ◌++◌, map, refl, sym, ap, subst, ◌∙◌, arith}
+use Rattle.std.proofs.Common.{◌≡◌, ℕ, Some, inl, inr, Result, Ok, Err, List, [], ◌∷◌, refl, sym, ap, subst, ◌∙◌, arith}
 use Rattle.std.specs.Prelude.{All, IfOk, IsErrOf, unsigned_abs, length}
 use Rattle.std.proofs.lemmas.Int.{ints}
 use Rattle.std.proofs.lemmas.List.Elements.{All-nil, All-cons, All-head, All-tail}
@@ -22,26 +22,25 @@ use Rattle.question_syntax.specs.Sections.{Sections, Wanted, all_wanted_of, sect
 use Rattle.question_syntax.specs.declared.syntax.ConditionLine.{ConditionLine}
 use Rattle.question_syntax.specs.declared.syntax.QuestionSyntax.{QuestionSyntax}
 use Rattle.condition_syntax.specs.Trees as written
-use Rattle.question_syntax.proofs.Exactness.{one_text, one_refusal, not_both}
+use Rattle.question_syntax.proofs.Exactness.{one_text, not_both}
 use Rattle.question_syntax.proofs.ConditionLimits.{question_within}
 use Rattle.question_text.specs.Conditions.{Condition}
-use Rattle.question_text.specs.Naming.{each_found}
-use Rattle.question_text.specs.Resolving.{IsFirstBroken, IsUnbroken, Resolves, SeenQuestion, Statement, judged, meant, question_seen, statements}
+use Rattle.question_text.specs.Resolving.{IsFirstBroken, IsUnbroken, Resolves, SeenQuestion, judged, question_seen, statements}
 use Rattle.question_text.specs.Limits.{IsQuestion}
 use Rattle.question_text.specs.Resolution.{IsAsked, IsAskedText, resolved_by}
 use Rattle.question_text.specs.declared.questions.Question.{Question}
-use Rattle.question_text.specs.Texts.{BreaksFirst, IsRefused, IsTextOf}
+use Rattle.question_text.specs.Texts.{IsRefused, IsTextOf}
 use Rattle.question_text.proofs.LineAgreement.{EachAskedWanted, IsRead, text_agrees}
 use Rattle.question_text.proofs.QuestionLimits.{IsSeenQuestion, question_within as question_limits, seen_within}
 
 -- ---- the first of a list
 
-all_passed : {A E : Type 0} (test : A → Result (Unit {0}) E) (xs : List A) → All (λ x. test x ≡ Ok tt) xs → first test xs ≡ Ok tt
+pub all_passed : {A E : Type 0} (test : A → Result (Unit {0}) E) (xs : List A) → All (λ x. test x ≡ Ok tt) xs → first test xs ≡ Ok tt
 all_passed test [] each = refl
 all_passed test (x ∷ xs) each =
     ap (λ t. and_then t (first test xs)) (All-head (λ y. test y ≡ Ok tt) x xs each) ∙ all_passed test xs (All-tail (λ y. test y ≡ Ok tt) x xs each)
 
-first_again : {A E : Type 0} (test : A → Result (Unit {0}) E) (xs : List A) (e : E) → IsFirst test xs e → first test xs ≡ Err e
+pub first_again : {A E : Type 0} (test : A → Result (Unit {0}) E) (xs : List A) (e : E) → IsFirst test xs e → first test xs ≡ Err e
 first_again test xs e is =
     ap (first test) is.parts ∙ first-append test is.before (is.stop ∷ is.after)
     ∙ ap (λ t. and_then t (first test (is.stop ∷ is.after))) (all_passed test is.before is.passed)
@@ -50,10 +49,10 @@ first_again test xs e is =
 some_is : {X : Type 0} (x y : X) → Some x ≡ Some y → x ≡ y
 some_is x y e = cc
 
-not_stopped : (r : Refusal) → ◌≡◌ {A = Result (Unit {0}) Refusal} (Ok tt) (Err r) → ⊥
+pub not_stopped : (r : Refusal) → ◌≡◌ {A = Result (Unit {0}) Refusal} (Ok tt) (Err r) → ⊥
 not_stopped r e = cc
 
-stopped_same : (r d : Refusal) → ◌≡◌ {A = Result (Unit {0}) Refusal} (Err r) (Err d) → r ≡ d
+pub stopped_same : (r d : Refusal) → ◌≡◌ {A = Result (Unit {0}) Refusal} (Err r) (Err d) → r ≡ d
 stopped_same r d e = cc
 
 -- ---- faults of the syntax
@@ -80,6 +79,13 @@ abbrev seen : Setting → List Condition → Condition → SeenQuestion
 seen setting assumes require = record { setting = setting; assumes = assumes; require = require }
 
 -- ---- what a text gives
+
+pub same_question : (c : Controller) (t : Sections) (p q : SeenQuestion) → Resolves c t p → Resolves c t q → p ≡ q
+same_question c t p q one two =
+    let settings : p.setting ≡ q.setting = one.setting ∙ sym two.setting in
+    let assumes : p.assumes ≡ q.assumes = some_is p.assumes q.assumes (sym one.assumes ∙ two.assumes) in
+    let require : p.require ≡ q.require = some_is p.require q.require (sym one.require ∙ two.require) in
+    ap (λ (x : Setting). seen x p.assumes p.require) settings ∙ ap (λ (x : List Condition). seen q.setting x p.require) assumes ∙ ap (seen q.setting q.assumes) require
 
 module _ (c : Controller) (controller : IsController c) where
   scale_of : IsScale (unsigned_abs c.den)
@@ -128,18 +134,11 @@ module _ (c : Controller) (controller : IsController c) where
           let same : d ≡ r = cc in
           first_is_first (judged c t.setting) (statements t) r (stopped ∙ ap (λ (x : Refusal). Err x) same)
 
-  same_question : (t : Sections) (p q : SeenQuestion) → Resolves c t p → Resolves c t q → p ≡ q
-  same_question t p q one two =
-      let settings : p.setting ≡ q.setting = one.setting ∙ sym two.setting in
-      let assumes : p.assumes ≡ q.assumes = some_is p.assumes q.assumes (sym one.assumes ∙ two.assumes) in
-      let require : p.require ≡ q.require = some_is p.require q.require (sym one.require ∙ two.require) in
-      ap (λ (x : Setting). seen x p.assumes p.require) settings ∙ ap (λ (x : List Condition). seen q.setting x p.require) assumes ∙ ap (seen q.setting q.assumes) require
-
   pub given_again : (t : Sections) (q : SeenQuestion) → IsQuestionText t → IsUnbroken c t → Resolves c t q → resolved_by c t ≡ Ok q
   given_again t q is unbroken resolved = by (resolved_by c t) (first (judged c t.setting) (statements t)) (agrees_on t is) refl refl
     where
       by : (r : Result SeenQuestion Refusal) (u : Result (Unit {0}) Refusal) → Agrees (IsRead c t) r u → resolved_by c t ≡ r → first (judged c t.setting) (statements t) ≡ u → r ≡ Ok q
-      by _ _ (fine x read) p passed = ap (λ (y : SeenQuestion). Ok y) (same_question t x q (resolves t x read) resolved)
+      by _ _ (fine x read) p passed = ap (λ (y : SeenQuestion). Ok y) (same_question c t x q (resolves t x read) resolved)
       by _ _ (stops r) p stopped = absurd (not_stopped r (sym (all_passed (judged c t.setting) (statements t) unbroken) ∙ stopped))
 
   pub broken_again : (t : Sections) (r : Refusal) → IsQuestionText t → IsFirstBroken c t r → resolved_by c t ≡ Err r

@@ -2,9 +2,9 @@
 use Rattle.std.specs.Prelude.{ℕ, zero, suc, ◌+◌, ◌<◌, ◌≤◌, ℤ, List, [], ◌∷◌, length}
 use Rattle.weighing.specs.Weighed.{times}
 use Rattle.weighing.specs.declared.weighings.Term.{Term}
-use Rattle.run_rows.specs.Runs.{arrived, flow_of, lost, over_flows, served, state_of, waste}
+use Rattle.run_rows.specs.Runs.{arrived, flow_count, flow_of, lost, over_flows, served, state_of, waste}
 use Rattle.run_rows.specs.declared.rows.Run.{Run}
-use Rattle.path_server.specs.Claims.{each_flow, flows_of}
+use Rattle.path_server.specs.Claims.{each_flow}
 use Rattle.question_text.specs.declared.names.Rows.{Rows}
 use Rattle.question_text.specs.declared.names.Count.{Count}
 use Rattle.question_text.specs.declared.names.Count.TheVariants.{Arrived, Served, Lost}
@@ -31,9 +31,9 @@ abbrev pub amount : Run → Rows → Of → ℤ
 amount r at One = r.over
 amount r at Credit = r.credit
 amount r at (W t) = waste r (row_at at t)
-amount r at (A f t) = flow_amount (arrived r (row_at at t)) (flows_of r) f
-amount r at (S f t) = flow_amount (served r (row_at at t)) (flows_of r) f
-amount r at (L f t) = flow_amount (lost r (row_at at t)) (flows_of r) f
+amount r at (A f t) = flow_amount (arrived r (row_at at t)) (flow_count r 0) f
+amount r at (S f t) = flow_amount (served r (row_at at t)) (flow_count r 0) f
+amount r at (L f t) = flow_amount (lost r (row_at at t)) (flow_count r 0) f
 amount r at (X j f t) = state_of r (row_at at t) f j
 
 -- a multiple of it, as terms: the sum over the flows is one term for each flow
@@ -45,20 +45,20 @@ abbrev pub of_terms : Run → Rows → ℤ → Of → List Term
 of_terms r at k One = times k r.over ∷ []
 of_terms r at k Credit = times k r.credit ∷ []
 of_terms r at k (W t) = times k (waste r (row_at at t)) ∷ []
-of_terms r at k (A f t) = flow_terms k (counted r Arrived (row_at at t)) (flows_of r) f
-of_terms r at k (S f t) = flow_terms k (counted r Served (row_at at t)) (flows_of r) f
-of_terms r at k (L f t) = flow_terms k (counted r Lost (row_at at t)) (flows_of r) f
+of_terms r at k (A f t) = flow_terms k (counted r Arrived (row_at at t)) (flow_count r 0) f
+of_terms r at k (S f t) = flow_terms k (counted r Served (row_at at t)) (flow_count r 0) f
+of_terms r at k (L f t) = flow_terms k (counted r Lost (row_at at t)) (flow_count r 0) f
 of_terms r at k (X j f t) = times k (state_of r (row_at at t) f j) ∷ []
 
 -- the run has the flow, or the sum, at the step
 pub record HasFlow (r : Run) (at : Rows) (f t : ℕ) : Type 0 where
-  pub flow_to : f ≤ flows_of r
+  pub flow_to : f ≤ flow_count r 0
   pub row_in : row_at at t < length r.rows
 
 -- the run has the state of the flow at the step
 pub record HasState (r : Run) (at : Rows) (j f t : ℕ) : Type 0 where
   pub flow_from : 1 ≤ f
-  pub flow_to : f ≤ flows_of r
+  pub flow_to : f ≤ flow_count r 0
   pub row_in : row_at at t < length r.rows
   pub state_in : j < length (flow_of r (row_at at t) f).x
 

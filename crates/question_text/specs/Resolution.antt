@@ -1,12 +1,12 @@
 -- Resolving a question's syntax from the top: its question, or the refusal of the first line that breaks a rule.
-use Rattle.std.specs.Prelude.{ℕ, List, [], ◌∷◌, All, Bool, true, false, ◌||◌, ◌&&◌, unsigned_abs, Option, None, Some, Result, Ok, Err}
+use Rattle.std.specs.Prelude.{ℕ, List, [], ◌∷◌, All, Bool, false, ◌||◌, ◌&&◌, unsigned_abs, Option, None, Some, Result, Ok, Err}
 use Rattle.std.specs.List.{list_any}
 use Rattle.text_lines.specs.Steps.{◌>>=◌}
 use Rattle.whole.specs.declared.answers.Refusal.{Refusal}
 use Rattle.weighing.specs.declared.scales.Num.{Num}
 use Rattle.path_server.specs.declared.settings.Setting.{Setting}
 use Rattle.condition_syntax.specs.Trees as written
-use Rattle.ctrl_syntax.specs.Limits.{CondExprs, CondDelays}
+use Rattle.condition_syntax.specs.Limits.{EachExpr, EachDelay}
 use Rattle.question_syntax.specs.Limits.{IsPlacedExpr, NoDelay}
 use Rattle.ctrl_types.specs.Denominators.{with_numbers}
 use Rattle.ctrl_types.specs.Names.{is_kind}
@@ -28,7 +28,7 @@ use Rattle.question_text.specs.declared.conditions.QTerm.{QTerm}
 
 -- the expressions are within their limits, and no test of delay stands in the condition
 abbrev pub IsAsked : written.Condition → Type 0
-IsAsked c = CondExprs IsPlacedExpr c × CondDelays NoDelay c
+IsAsked c = EachExpr IsPlacedExpr c × EachDelay NoDelay c
 
 abbrev pub EachAsked : List written.Condition → Type 0
 EachAsked [] = Unit {0}

@@ -13,6 +13,7 @@ mod names;
 mod naming;
 mod questions;
 mod refusals;
+mod telling;
 #[cfg(test)]
 mod tests;
 #[cfg(test)]
@@ -26,5 +27,6 @@ mod writing;
 pub use conditions::{Of, QCond, QLin, QTerm};
 pub use question_syntax::read_setting;
 pub use questions::Question;
+pub use telling::{names_stand_by_their_cases, questions_are_told_apart};
 pub use texts::{print, read};
 pub use violation::violates;

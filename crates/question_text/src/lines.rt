@@ -112,14 +112,8 @@ fn assumes(
 {
     let mut resolved = Items::new(alloc);
     for line in lines {
-        let assume = match wanted(alloc, states, setting, line, den) {
-            Ok(assume) => assume,
-            Err(fault) => return Err(fault),
-        };
-        match resolved.push(assume) {
-            Ok(()) => {}
-            Err(_) => return Err(ReadFault::NoMemory),
-        }
+        let assume = wanted(alloc, states, setting, line, den)?;
+        resolved.push(assume)?;
     }
     Ok(resolved)
 }

@@ -1,8 +1,8 @@
 //! What the names of a question stand for in a run.
 ghost use Rattle.std.specs.Prelude.{◌≡◌, ◌<◌, ◌≤◌, [], ◌∷◌, length, unsigned_abs};
-ghost use Rattle.run_rows.specs.Runs.{IsEntry, IsRun, flow_of, state_of, waste};
+ghost use Rattle.run_rows.specs.Runs.{IsEntry, IsRun, flow_count};
 ghost use Rattle.weighing.specs.Weighed.{times, weighed_from};
-ghost use Rattle.path_server.specs.Claims.{each_flow, flows_of};
+ghost use Rattle.path_server.specs.Claims.{each_flow};
 ghost use Rattle.question_text.specs.Names.{IsOf, counted, flow_terms, of_terms, row_at};
 
 use crate::conditions::Of;
@@ -37,7 +37,7 @@ pub fn plus_of(weighing: Weighing, run: &Run, at: &Rows, factor: i128, of: Of) -
     match of {
         Of::One => weighing.plus(factor, run.over),
         Of::Credit => weighing.plus(factor, run.credit),
-        Of::W(step) => weighing.plus(factor, waste(run, row_of_step(run, at, step))),
+        Of::W(step) => weighing.plus(factor, run.waste(row_of_step(run, at, step))),
         Of::A(flow, step) => {
             let row = row_of_step(run, at, step);
             plus_count(weighing, run, row, flow, Count::Arrived, factor)
@@ -52,7 +52,7 @@ pub fn plus_of(weighing: Weighing, run: &Run, at: &Rows, factor: i128, of: Of) -
         }
         Of::X(state, flow, step) => {
             let row = row_of_step(run, at, step);
-            weighing.plus(factor, state_value(run, row, flow, state))
+            weighing.plus(factor, run.state(row, flow, state))
         }
     }
 }
@@ -78,9 +78,9 @@ fn plus_count(
 ) -> Weighing
     requires run_in { IsRun run.now }
     requires row_in { row < length run.now.rows }
-    requires flow_to { flow ≤ flows_of run.now }
+    requires flow_to { flow ≤ flow_count run.now 0 }
     requires factor_to { unsigned_abs factor ≤ 1000000000000 }
-    ensures { result ≡ weighed_from start (flow_terms factor (counted run.now count row) (flows_of run.now) flow) }
+    ensures { result ≡ weighed_from start (flow_terms factor (counted run.now count row) (flow_count run.now 0) flow) }
 {
     if flow == 0 {
         return plus_each(start, run, row, count, factor);
@@ -94,22 +94,14 @@ fn plus_each(start: Weighing, run: &Run, row: u32, count: Count, factor: i128) -
     requires run_in { IsRun run.now }
     requires row_in { row < length run.now.rows }
     requires factor_to { unsigned_abs factor ≤ 1000000000000 }
-    ensures { result ≡ weighed_from start (each_flow (λ f. times factor (counted run.now count row f) ∷ []) (flows_of run.now)) }
+    ensures { result ≡ weighed_from start (each_flow (λ f. times factor (counted run.now count row f) ∷ []) (flow_count run.now 0)) }
 {
     let mut weighing = start;
-    for index in 0..flow_count(run) {
+    for index in 0..run.flow_count() {
         let number = entry(run, row, index + 1, count);
         weighing = weighing.plus(factor, number);
     }
     weighing
-}
-
-/// How many flows the run has, the same on each row.
-fn flow_count(run: &Run) -> u32
-    requires { IsRun run.now }
-    ensures { result ≡ flows_of run.now }
-{
-    run.rows.as_slice()[0].flows.len() as u32
 }
 
 /// What a flow has on a row.
@@ -117,7 +109,7 @@ fn entry(run: &Run, row: u32, flow: u32, count: Count) -> i128
     requires run_in { IsRun run.now }
     requires row_in { row < length run.now.rows }
     requires flow_from { 1 ≤ flow }
-    requires flow_to { flow ≤ flows_of run.now }
+    requires flow_to { flow ≤ flow_count run.now 0 }
     ensures value { result ≡ counted run.now count row flow }
     ensures within { IsEntry result }
 {
@@ -127,27 +119,4 @@ fn entry(run: &Run, row: u32, flow: u32, count: Count) -> i128
         Count::Served => entries.s,
         Count::Lost => entries.l,
     }
-}
-
-/// What the path wasted by this row.
-fn waste(run: &Run, row: u32) -> i128
-    requires run_in { IsRun run.now }
-    requires row_in { row < length run.now.rows }
-    ensures value { result ≡ waste run.now row }
-    ensures within { IsEntry result }
-{
-    run.rows.as_slice()[row as usize].w
-}
-
-/// The value of a state of one flow on one row.
-fn state_value(run: &Run, row: u32, flow: u32, state: u32) -> i128
-    requires run_in { IsRun run.now }
-    requires row_in { row < length run.now.rows }
-    requires flow_from { 1 ≤ flow }
-    requires flow_to { flow ≤ flows_of run.now }
-    requires state_in { state < length (flow_of run.now row flow).x }
-    ensures value { result ≡ state_of run.now row flow state }
-    ensures within { IsEntry result }
-{
-    run.flow(row, flow).x.as_slice()[state as usize]
 }

@@ -36,10 +36,8 @@ pub fn read(alloc: Global, bytes: &[u8], controller: &Controller) -> Result<Ques
     // What is given is within the limits of questions about the controller.
     ensures limits { IfOk result (λ question. IsQuestion (length controller.now.states) question) }
 {
-    match read_syntax(alloc, bytes) {
-        Ok(syntax) => resolved(alloc, &syntax, controller),
-        Err(fault) => Err(fault),
-    }
+    let syntax = read_syntax(alloc, bytes)?;
+    resolved(alloc, &syntax, controller)
 }
 
 /// The canonical text of a question that `read` can give for this controller: a state is printed as `x@t` where there is

@@ -34,13 +34,10 @@ fn lin(
             Some(of) => of,
             None => return Err(ReadFault::Refused(refusal(12, line))),
         };
-        match terms.push(QTerm {
+        terms.push(QTerm {
             coef: term.coef,
             of,
-        }) {
-            Ok(()) => {}
-            Err(_) => return Err(ReadFault::NoMemory),
-        }
+        })?;
     }
     Ok(QLin { terms })
 }
@@ -85,21 +82,12 @@ pub(crate) fn condition(
         }
         // No question's text has a test of delay.
         Cond::Delay(_) => Err(ReadFault::Refused(refusal(12, line))),
-        Cond::Not(part) => match condition(alloc, states, setting, part, line) {
-            Ok(inner) => match Box::new(alloc, inner) {
-                Ok(inner) => Ok(QCond::Not(inner)),
-                Err(_) => Err(ReadFault::NoMemory),
-            },
-            Err(fault) => Err(fault),
-        },
-        Cond::And(parts) => match conditions(alloc, states, setting, parts, line) {
-            Ok(resolved) => Ok(QCond::And(resolved)),
-            Err(fault) => Err(fault),
-        },
-        Cond::Or(parts) => match conditions(alloc, states, setting, parts, line) {
-            Ok(resolved) => Ok(QCond::Or(resolved)),
-            Err(fault) => Err(fault),
-        },
+        Cond::Not(part) => {
+            let inner = condition(alloc, states, setting, part, line)?;
+            Ok(QCond::Not(Box::new(alloc, inner)?))
+        }
+        Cond::And(parts) => Ok(QCond::And(conditions(alloc, states, setting, parts, line)?)),
+        Cond::Or(parts) => Ok(QCond::Or(conditions(alloc, states, setting, parts, line)?)),
     }
 }
 
@@ -117,14 +105,7 @@ fn conditions(
 {
     let mut resolved = Vec::new(alloc);
     for part in parts {
-        let inner = match condition(alloc, states, setting, part, line) {
-            Ok(inner) => inner,
-            Err(fault) => return Err(fault),
-        };
-        match resolved.push(inner) {
-            Ok(()) => {}
-            Err(_) => return Err(ReadFault::NoMemory),
-        }
+        resolved.push(condition(alloc, states, setting, part, line)?)?;
     }
     Ok(resolved)
 }

@@ -35,7 +35,7 @@ fn examine(question: &Question, run: &Run) -> Result<bool, Stuck>
     requires { CanAsk question.now run.now }
     ensures { result ≡ violation question.now run.now }
 {
-    let last = run.rows.len() as u32 - 1;
+    let last = run.row_count() - 1;
     let at = Rows {
         opening: last - question.setting.steps,
         last,

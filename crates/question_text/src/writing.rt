@@ -105,14 +105,7 @@ fn lin(alloc: Global, states: &[State], setting: &Setting, lin: &QLin) -> Result
 {
     let mut terms = Items::new(alloc);
     for part in lin.terms.as_slice() {
-        let written = match term(alloc, states, setting, *part) {
-            Ok(written) => written,
-            Err(fault) => return Err(fault),
-        };
-        match terms.push(written) {
-            Ok(()) => {}
-            Err(_) => return Err(AllocError),
-        }
+        terms.push(term(alloc, states, setting, *part)?)?;
     }
     Ok(Expr { terms })
 }
@@ -132,30 +125,16 @@ fn condition(
         QCond::True => Ok(Cond::True),
         QCond::False => Ok(Cond::False),
         QCond::Cmp(left, rel, right) => {
-            let left = match lin(alloc, states, setting, left) {
-                Ok(left) => left,
-                Err(fault) => return Err(fault),
-            };
-            match lin(alloc, states, setting, right) {
-                Ok(right) => Ok(Cond::Cmp(left, *rel, right)),
-                Err(fault) => Err(fault),
-            }
+            let left = lin(alloc, states, setting, left)?;
+            let right = lin(alloc, states, setting, right)?;
+            Ok(Cond::Cmp(left, *rel, right))
         }
-        QCond::Not(part) => match condition(alloc, states, setting, part) {
-            Ok(inner) => match Box::new(alloc, inner) {
-                Ok(inner) => Ok(Cond::Not(inner)),
-                Err(_) => Err(AllocError),
-            },
-            Err(fault) => Err(fault),
-        },
-        QCond::And(parts) => match conditions(alloc, states, setting, parts) {
-            Ok(written) => Ok(Cond::And(written)),
-            Err(fault) => Err(fault),
-        },
-        QCond::Or(parts) => match conditions(alloc, states, setting, parts) {
-            Ok(written) => Ok(Cond::Or(written)),
-            Err(fault) => Err(fault),
-        },
+        QCond::Not(part) => {
+            let inner = condition(alloc, states, setting, part)?;
+            Ok(Cond::Not(Box::new(alloc, inner)?))
+        }
+        QCond::And(parts) => Ok(Cond::And(conditions(alloc, states, setting, parts)?)),
+        QCond::Or(parts) => Ok(Cond::Or(conditions(alloc, states, setting, parts)?)),
     }
 }
 
@@ -171,14 +150,7 @@ fn conditions(
 {
     let mut written = Vec::new(alloc);
     for part in parts {
-        let inner = match condition(alloc, states, setting, part) {
-            Ok(inner) => inner,
-            Err(fault) => return Err(fault),
-        };
-        match written.push(inner) {
-            Ok(()) => {}
-            Err(_) => return Err(AllocError),
-        }
+        written.push(condition(alloc, states, setting, part)?)?;
     }
     Ok(written)
 }
@@ -208,14 +180,7 @@ fn lines(
 {
     let mut written = Items::new(alloc);
     for cond in conds {
-        let one = match line(alloc, states, setting, cond) {
-            Ok(one) => one,
-            Err(fault) => return Err(fault),
-        };
-        match written.push(one) {
-            Ok(()) => {}
-            Err(_) => return Err(AllocError),
-        }
+        written.push(line(alloc, states, setting, cond)?)?;
     }
     Ok(written)
 }

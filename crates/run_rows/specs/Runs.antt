@@ -21,6 +21,7 @@ row_of r i = get_or r.rows i no_row
 abbrev pub flow_of : Run → ℕ → ℕ → FlowRow
 flow_of r i f = get_or (row_of r i).flows (f - 1) no_flow
 
+-- how many flows stand on row i; a run has as many on each row as on row 0
 abbrev pub flow_count : Run → ℕ → ℕ
 flow_count r i = length (row_of r i).flows
 

@@ -176,11 +176,11 @@ impl Run {
     {
         match entry {
             Entry::Credit => self.credit,
-            Entry::W { row } => self.rows.as_slice()[row as usize].w,
+            Entry::W { row } => self.waste(row),
             Entry::A { row, flow } => self.flow(row, flow).a,
             Entry::S { row, flow } => self.flow(row, flow).s,
             Entry::L { row, flow } => self.flow(row, flow).l,
-            Entry::X { row, flow, state } => self.flow(row, flow).x.as_slice()[state as usize],
+            Entry::X { row, flow, state } => self.state(row, flow, state),
         }
     }
 }

@@ -1,6 +1,6 @@
 ghost use Rattle.std.specs.Prelude.{◌≡◌, ◌↔◌, ◌<◌, ◌≤◌, All, IsTrue, length};
 ghost use Rattle.run_rows.specs.Limits.{IsWithin};
-ghost use Rattle.run_rows.specs.Runs.{Fits, FlowFits, IsEntry, RowFits, flow_of, row_of};
+ghost use Rattle.run_rows.specs.Runs.{Fits, FlowFits, IsEntry, IsRun, RowFits, flow_count, flow_of, state_count, state_of, waste};
 
 use crate::shapes::Shape;
 use sqlite_items::Items;
@@ -62,15 +62,53 @@ impl Run {
         true
     }
 
-    /// The entries of one flow on one row, both in range.
+    /// How many rows the run has: at most 49.
+    pub fn row_count(&self) -> u32
+        requires { IsRun self.now }
+        ensures { result ≡ length self.now.rows }
+    {
+        self.rows.len() as u32
+    }
+
+    /// How many flows the run has, 1 to 4, the same on each row.
+    pub fn flow_count(&self) -> u32
+        requires { IsRun self.now }
+        ensures { result ≡ flow_count self.now 0 }
+    {
+        self.rows.as_slice()[0].flows.len() as u32
+    }
+
+    /// What the path wasted by the row, which is below `row_count`.
+    pub fn waste(&self, row: u32) -> i128
+        requires { row < length self.now.rows }
+        ensures value { result ≡ waste self.now row }
+        ensures within { IsRun self.now → IsEntry result }
+    {
+        self.rows.as_slice()[row as usize].w
+    }
+
+    /// The entries of a flow, 1 to `flow_count`, on a row below `row_count`.
     pub fn flow(&self, row: u32, flow: u32) -> &FlowRow
         requires row_in { row < length self.now.rows }
         requires flow_from { 1 ≤ flow }
-        requires flow_to { flow ≤ length (row_of self.now row).flows }
-        ensures { result.now ≡ flow_of self.now row flow }
+        requires flow_to { flow ≤ flow_count self.now row }
+        ensures value { result.now ≡ flow_of self.now row flow }
+        ensures within { (run : IsRun self.now) → FlowFits (state_count run.shape row) result.now }
     {
         let flows = &self.rows.as_slice()[row as usize].flows;
         &flows.as_slice()[flow as usize - 1]
+    }
+
+    /// The value of a state of a flow, 1 to `flow_count`, on a row below `row_count`. States are numbered from 0.
+    pub fn state(&self, row: u32, flow: u32, state: u32) -> i128
+        requires row_in { row < length self.now.rows }
+        requires flow_from { 1 ≤ flow }
+        requires flow_to { flow ≤ flow_count self.now row }
+        requires state_in { state < length (flow_of self.now row flow).x }
+        ensures value { result ≡ state_of self.now row flow state }
+        ensures within { IsRun self.now → IsEntry result }
+    {
+        self.flow(row, flow).x.as_slice()[state as usize]
     }
 }
 

@@ -88,6 +88,10 @@ fn each_column_holds_its_entry(rt: HostRuntime) -> Result<(), Fail> {
             assert_eq!(rt; run.at(&SMALL, column), 10 * i128::from(column));
         }
         assert_eq!(rt; run.flow(3, 1).s, 160);
+        assert_eq!(rt; run.waste(3), 140);
+        assert_eq!(rt; run.state(2, 1, 0), 130);
+        assert_eq!(rt; run.row_count(), 4);
+        assert_eq!(rt; run.flow_count(), 1);
     }
     Ok(())
 }

@@ -9,3 +9,4 @@ pub mod Forms
 pub mod PlaceLaws
 pub mod Refusals
 pub mod ReplayLaws
+pub mod SeenLaws

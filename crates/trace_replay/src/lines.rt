@@ -4,7 +4,7 @@ ghost use Rattle.run_rows.specs.Limits.{IsWithin};
 ghost use Rattle.text_lines.specs.Pieces.{pieces};
 ghost use Rattle.text_lines.specs.Items.{whole_at};
 ghost use Rattle.text_lines.specs.Steps.{Gives, each};
-ghost use Rattle.trace_replay.specs.Reading.{header_at, shape_at, over_at, credit_at, row_at, flow_at, last_at, refusal, blame, take_line};
+ghost use Rattle.trace_replay.specs.Reading.{header_at, shape_at, over_at, credit_at, row_at, flow_at, last_at, refusal, blame, blamed, take_line};
 ghost use Rattle.trace_replay.specs.Faults.{GivesLine, GivesItems};
 
 use crate::faults::LineFault;
@@ -32,6 +32,16 @@ pub(crate) fn blame(own: u8, line: u32, fault: ItemFault) -> Refusal
     match fault {
         ItemFault::Form => refusal(own, line),
         ItemFault::Large => refusal(5, line),
+    }
+}
+
+/// What is read of a line, or the refusal of that line.
+pub(crate) fn blamed<T>(own: u8, line: u32, read: Result<T, ItemFault>) -> Result<T, Refusal>
+    ensures { result ≡ blamed own line read }
+{
+    match read {
+        Ok(found) => Ok(found),
+        Err(fault) => Err(blame(own, line, fault)),
     }
 }
 
@@ -125,10 +135,8 @@ fn states_of(alloc: Global, items: &mut LineItems<'_>, count: u32) -> Result<Ite
 {
     let mut states = Items::new(alloc);
     for _ in 0..count {
-        match items.whole() {
-            Ok(state) => states.push(state)?,
-            Err(fault) => return Err(LineFault::Item(fault)),
-        }
+        let state = items.whole()?;
+        states.push(state)?;
     }
     Ok(states)
 }

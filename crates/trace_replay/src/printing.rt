@@ -62,10 +62,7 @@ fn put_rows(out: &mut String, rows: &[Row]) -> Result<(), AllocError>
     ensures { OnOk result (string_bytes out.new ≡ string_bytes out.old ++ text (numbered row_lines 0 rows.now)) }
 {
     for (i, row) in rows.iter().enumerate() {
-        match put_row(out, i, row) {
-            Ok(()) => {}
-            Err(fault) => return Err(fault),
-        }
+        put_row(out, i, row)?;
     }
     Ok(())
 }
@@ -88,10 +85,7 @@ fn put_flows(out: &mut String, flows: &[FlowRow]) -> Result<(), AllocError>
     ensures { OnOk result (string_bytes out.new ≡ string_bytes out.old ++ text (numbered flow_lines 1 flows.now)) }
 {
     for (i, flow) in flows.iter().enumerate() {
-        match put_flow(out, 1 + i, flow) {
-            Ok(()) => {}
-            Err(fault) => return Err(fault),
-        }
+        put_flow(out, 1 + i, flow)?;
     }
     Ok(())
 }
@@ -117,10 +111,7 @@ fn put_states(out: &mut String, states: &[i128]) -> Result<(), AllocError>
     ensures { OnOk result (string_bytes out.new ≡ string_bytes out.old ++ spaced (map signed_decimal states.now)) }
 {
     for state in states {
-        match put_state(out, *state) {
-            Ok(()) => {}
-            Err(fault) => return Err(fault),
-        }
+        put_state(out, *state)?;
     }
     Ok(())
 }

@@ -11,7 +11,8 @@ ghost use Rattle.trace_replay.specs.Reading.{header_at, shape_at, over_at, credi
 
 use crate::faults::LineFault;
 use crate::lines::{
-    blame, credit_of, flow_of, header_of, last_of, over_of, refusal, shape_of, take_line, waste_of,
+    blame, blamed, credit_of, flow_of, header_of, last_of, over_of, refusal, shape_of, take_line,
+    waste_of,
 };
 use run_rows::{FlowRow, Row, Run, Shape};
 use sqlite_items::Items;
@@ -27,11 +28,7 @@ fn header_line(lines: &mut Lines<'_>) -> Result<(), Refusal>
     if lines.is_finished() {
         return Err(refusal(1, number));
     }
-    let line = take_line(lines)?;
-    match header_of(line) {
-        Ok(()) => Ok(()),
-        Err(fault) => Err(blame(1, number, fault)),
-    }
+    blamed(1, number, header_of(take_line(lines)?))
 }
 
 #[tactic(auto, unfolding(crate::specs::Reading::line_by))]
@@ -40,11 +37,7 @@ fn shape_line(lines: &mut Lines<'_>) -> Result<Shape, Refusal>
     ensures within { IfOk result IsWithin }
 {
     let number = lines.number();
-    let line = take_line(lines)?;
-    match shape_of(line) {
-        Ok(shape) => Ok(shape),
-        Err(fault) => Err(blame(2, number, fault)),
-    }
+    blamed(2, number, shape_of(take_line(lines)?))
 }
 
 #[tactic(auto, unfolding(crate::specs::Reading::line_by))]
@@ -52,11 +45,7 @@ fn over_line(lines: &mut Lines<'_>) -> Result<i128, Refusal>
     ensures { Gives result lines.new (line_by 3 over_at lines.old) }
 {
     let number = lines.number();
-    let line = take_line(lines)?;
-    match over_of(line) {
-        Ok(over) => Ok(over),
-        Err(fault) => Err(blame(3, number, fault)),
-    }
+    blamed(3, number, over_of(take_line(lines)?))
 }
 
 #[tactic(auto, unfolding(crate::specs::Reading::line_by))]
@@ -64,11 +53,7 @@ fn credit_line(lines: &mut Lines<'_>) -> Result<i128, Refusal>
     ensures { Gives result lines.new (line_by 3 credit_at lines.old) }
 {
     let number = lines.number();
-    let line = take_line(lines)?;
-    match credit_of(line) {
-        Ok(credit) => Ok(credit),
-        Err(fault) => Err(blame(3, number, fault)),
-    }
+    blamed(3, number, credit_of(take_line(lines)?))
 }
 
 #[tactic(auto, unfolding(crate::specs::Reading::line_by))]
@@ -76,11 +61,7 @@ fn waste_line(lines: &mut Lines<'_>, row: u32) -> Result<i128, Refusal>
     ensures { Gives result lines.new (line_by 4 (row_at row) lines.old) }
 {
     let number = lines.number();
-    let line = take_line(lines)?;
-    match waste_of(line, row) {
-        Ok(waste) => Ok(waste),
-        Err(fault) => Err(blame(4, number, fault)),
-    }
+    blamed(4, number, waste_of(take_line(lines)?, row))
 }
 
 #[tactic(auto, unfolding(crate::specs::Reading::flow_by, crate::specs::Reading::line_by))]
@@ -106,11 +87,7 @@ fn last_line(lines: &mut Lines<'_>) -> Result<(), Refusal>
     ensures { Gives result lines.new (line_by 6 last_at lines.old) }
 {
     let number = lines.number();
-    let line = take_line(lines)?;
-    match last_of(line) {
-        Ok(()) => Ok(()),
-        Err(fault) => Err(blame(6, number, fault)),
-    }
+    blamed(6, number, last_of(take_line(lines)?))
 }
 
 /// The flows of a row, each on its line.
@@ -125,10 +102,8 @@ fn flow_lines(
 {
     let mut found = Items::new(alloc);
     for i in 0..flows {
-        match flow_line(alloc, lines, 1 + i, states) {
-            Ok(flow) => found.push(flow)?,
-            Err(fault) => return Err(fault),
-        }
+        let flow = flow_line(alloc, lines, 1 + i, states)?;
+        found.push(flow)?;
     }
     Ok(found)
 }
@@ -157,10 +132,8 @@ fn all_rows(alloc: Global, lines: &mut Lines<'_>, shape: &Shape) -> Result<Items
 {
     let mut rows = Items::new(alloc);
     for i in 0..shape.h + shape.t + 1 {
-        match row_lines(alloc, lines, shape, i) {
-            Ok(row) => rows.push(row)?,
-            Err(fault) => return Err(fault),
-        }
+        let row = row_lines(alloc, lines, shape, i)?;
+        rows.push(row)?;
     }
     Ok(rows)
 }

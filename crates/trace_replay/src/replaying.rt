@@ -108,7 +108,7 @@ fn examine_rows(controller: &Controller, question: &Question, run: &Run) -> Resu
     requires run_in { FitsBoth controller.now question.now.setting run.now }
     ensures { result ≡ first (found controller.now question.now run.now) (places_of_rows controller.now question.now run.now) }
 {
-    for row in 0..run.rows.len() as u32 {
+    for row in 0..run.row_count() {
         examine_row(controller, question, run, row)?;
     }
     Ok(())

@@ -1,7 +1,7 @@
 use Rattle.std.proofs.Common.{◌≡◌, sym, subst, ap, ℕ, List, Err}
 use Rattle.std.proofs.lemmas.Result.{IfOk-weaker}
 use Rattle.whole.specs.declared.answers.Refusal.{Refusal}
-use Rattle.ccac_cli.specs.Formats.{AskedFormat, QuestionFormat, controller_read, controller_refused'}
+use Rattle.ccac_cli.specs.Formats.{AskedFormat, QuestionFormat, controller_read, controller_stops}
 use Rattle.ccac_cli.specs.Reports.{Answer, refused}
 use Rattle.ccac_cli.specs.Shown.{shown}
 use Rattle.ccac_cli.specs.Texts.{IsControllerRefused}
@@ -15,7 +15,7 @@ format_asked-requires-clause-controller_in c = c.in-Ok.ensures.found.limits
 
 shows_refusal : (bytes question : List ℕ) (r : Refusal) (answer : Answer) → IsControllerRefused bytes r → answer ≡ refused ControllerFile r
     → QuestionFormat bytes question answer
-shows_refusal bytes question r answer breaks shows = subst (QuestionFormat bytes question) (sym shows) (controller_refused' r breaks)
+shows_refusal bytes question r answer breaks shows = subst (QuestionFormat bytes question) (sym shows) (controller_stops r breaks)
 
 pub returns-in-Ok : goal.returns-in-Ok
 returns-in-Ok c =

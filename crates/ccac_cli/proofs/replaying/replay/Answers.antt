@@ -1,4 +1,4 @@
-use Rattle.std.proofs.Common.{◌≡◌, sym, subst, ap, ◌∙◌, ℕ, List, Err, Ok, Result}
+use Rattle.std.proofs.Common.{◌≡◌, sym, subst, ap, ℕ, List, Err}
 use Rattle.std.proofs.lemmas.Result.{IfOk-weaker}
 use Rattle.whole.specs.declared.answers.Refusal.{Refusal}
 use Rattle.ccac_cli.specs.Replays.{AskAnswers, ReplayAnswers, controller_read, controller_refused}

@@ -1,4 +1,4 @@
-use Rattle.std.proofs.Common.{◌≡◌, sym, subst, ap, ℕ, List, length, Err}
+use Rattle.std.proofs.Common.{◌≡◌, sym, subst, ap, ℕ, List, Err}
 use Rattle.std.proofs.lemmas.Result.{IfOk-weaker}
 use Rattle.whole.specs.declared.answers.Refusal.{Refusal}
 use Rattle.ctrl_types.specs.declared.controllers.Controller.{Controller}

@@ -1,4 +1,4 @@
-use Rattle.std.proofs.Common.{◌≡◌, sym, subst, ap, ◌∙◌, ℕ, List, Err, Ok, Result}
+use Rattle.std.proofs.Common.{◌≡◌, sym, subst, ap, ◌∙◌, ℕ, List, Err}
 use Rattle.whole.specs.declared.answers.Refusal.{Refusal}
 use Rattle.run_rows.specs.declared.shapes.Shape.{Shape}
 use Rattle.run_rows.specs.declared.rows.Run.{Run}

@@ -1,6 +1,7 @@
 use Rattle.std.proofs.Common.{◌≡◌, suc, ◌++◌, ◌∷◌, [], List, Ok, length, map, sym, ap, subst, ◌∙◌, arith}
 use Rattle.std.specs.Prelude.{codes}
 use Rattle.std.proofs.lemmas.List.{map-append}
+use Rattle.std.proofs.lemmas.Result.{err_from_is_err_and}
 use Rattle.condition_syntax.specs.declared.conditions.Cond.{Cond}
 use Rattle.condition_syntax.specs.Trees.{Condition, condition_of}
 use Rattle.condition_syntax.specs.Conditions.{pending, chain_by, conjunction_by, part_by}
@@ -16,66 +17,70 @@ use Rattle.condition_syntax.proofs.parts.+conditions.Goals as goal
 pushed : (parts : List Cond) (part : Cond) (more : List Cond) → more ≡ parts ++ part ∷ [] → map condition_of more ≡ map condition_of parts ++ condition_of part ∷ []
 pushed parts part more e = ap (map condition_of) e ∙ map-append condition_of parts (part ∷ [])
 
-pub conjuncts-returns-in-Err-clause-exact : goal.conjuncts-returns-in-Err-clause-exact
-conjuncts-returns-in-Err-clause-exact t c =
-    chain_fails (codes "and") (part_by c.args.style c.args.room) (map condition_of c.loop-part.parts.items) (pending c.loop-part.begun c.loop-part.cursor.tokens)
+pub conjuncts-returns-in_err-part-clause-exact : goal.conjuncts-returns-in_err-part-clause-exact
+conjuncts-returns-in_err-part-clause-exact t c =
+    let p = err_from_is_err_and c.from_residual.result c.from_residual.ensures.1 in
+    rw (p.1, p.2)
+    (chain_fails (codes "and") (part_by c.args.style c.args.room) (map condition_of c.loop-parts.parts.items) (pending c.loop-parts.begun c.loop-parts.cursor.tokens)
     (chain_by (codes "and") (part_by c.args.style c.args.room) (suc (length c.args.cursor.now.tokens)) (pending c.args.begun.now c.args.cursor.now.tokens))
-    c.loop-part.invariant.so_far c.in-Err.halt c.in-Err.ensures.exact
+    c.loop-parts.invariant.so_far c.in_err-part.field-0.0 c.in_err-part.ensures.exact)
 
 pub conjuncts-returns-then-not-says-clause-exact : goal.conjuncts-returns-then-not-says-clause-exact
 conjuncts-returns-then-not-says-clause-exact t c =
-    chain_ends (codes "and") (part_by c.args.style c.args.room) (map condition_of c.loop-part.parts.items) (pending c.loop-part.begun c.loop-part.cursor.tokens)
+    chain_ends (codes "and") (part_by c.args.style c.args.room) (map condition_of c.loop-parts.parts.items) (pending c.loop-parts.begun c.loop-parts.cursor.tokens)
     (chain_by (codes "and") (part_by c.args.style c.args.room) (suc (length c.args.cursor.now.tokens)) (pending c.args.begun.now c.args.cursor.now.tokens))
-    c.loop-part.invariant.so_far (condition_of c.in-Ok.part) (pending c.part.new.begun c.part.new.cursor.tokens) c.in-Ok.ensures.exact
+    c.loop-parts.invariant.so_far (condition_of c.in_ok-part.part) (pending c.part.new.begun c.part.new.cursor.tokens) c.in_ok-part.ensures.exact
     (sym c.says.ensures ∙ c.if-not-says.true)
-    ∙ ap (λ (cs : List Condition). Ok (cs, pending c.part.new.begun c.part.new.cursor.tokens)) (sym (pushed c.loop-part.parts.items c.in-Ok.part c.push.new.self.items c.in_ok-push-in-Ok.ensures.items))
+    ∙ ap (λ (cs : List Condition). Ok (cs, pending c.part.new.begun c.part.new.cursor.tokens)) (sym (pushed c.loop-parts.parts.items c.in_ok-part.part c.push.new.self.items c.in_ok-push.ensures.items))
 
-pub conjuncts-loop-part-smaller : goal.conjuncts-loop-part-smaller
-conjuncts-loop-part-smaller t c =
-    let shorter = part_shortens c.args.style c.args.room (pending c.loop-part.begun c.loop-part.cursor.tokens) (condition_of c.in-Ok.part, pending c.part.new.begun c.part.new.cursor.tokens) c.in-Ok.ensures.exact in
+pub conjuncts-loop-parts-smaller : goal.conjuncts-loop-parts-smaller
+conjuncts-loop-parts-smaller t c =
+    let shorter = part_shortens c.args.style c.args.room (pending c.loop-parts.begun c.loop-parts.cursor.tokens) (condition_of c.in_ok-part.part, pending c.part.new.begun c.part.new.cursor.tokens) c.in_ok-part.ensures.exact in
     let fewer = ap length (says_is (codes "and") c.part.new.cursor.tokens (sym c.says.ensures ∙ c.if-not-says.false)) in
     rw c.advance.ensures (omega (arith, shorter, fewer))
 
-pub conjuncts-loop-part-preserved : goal.conjuncts-loop-part-preserved
-conjuncts-loop-part-preserved t c =
-    let shorter = part_shortens c.args.style c.args.room (pending c.loop-part.begun c.loop-part.cursor.tokens) (condition_of c.in-Ok.part, pending c.part.new.begun c.part.new.cursor.tokens) c.in-Ok.ensures.exact in
+pub conjuncts-loop-parts-preserved : goal.conjuncts-loop-parts-preserved
+conjuncts-loop-parts-preserved t c =
+    let shorter = part_shortens c.args.style c.args.room (pending c.loop-parts.begun c.loop-parts.cursor.tokens) (condition_of c.in_ok-part.part, pending c.part.new.begun c.part.new.cursor.tokens) c.in_ok-part.ensures.exact in
     record {
-      so_far = rw (c.advance.ensures, pushed c.loop-part.parts.items c.in-Ok.part c.push.new.self.items c.in_ok-push-in-Ok.ensures.items)
-          (chain_goes_on (codes "and") (part_by c.args.style c.args.room) (map condition_of c.loop-part.parts.items) (pending c.loop-part.begun c.loop-part.cursor.tokens)
+      so_far = rw (c.advance.ensures, pushed c.loop-parts.parts.items c.in_ok-part.part c.push.new.self.items c.in_ok-push.ensures.items)
+          (chain_goes_on (codes "and") (part_by c.args.style c.args.room) (map condition_of c.loop-parts.parts.items) (pending c.loop-parts.begun c.loop-parts.cursor.tokens)
           (chain_by (codes "and") (part_by c.args.style c.args.room) (suc (length c.args.cursor.now.tokens)) (pending c.args.begun.now c.args.cursor.now.tokens))
-          c.loop-part.invariant.so_far (condition_of c.in-Ok.part) (pending c.part.new.begun c.part.new.cursor.tokens) c.in-Ok.ensures.exact
+          c.loop-parts.invariant.so_far (condition_of c.in_ok-part.part) (pending c.part.new.begun c.part.new.cursor.tokens) c.in_ok-part.ensures.exact
           (sym c.says.ensures ∙ c.if-not-says.false) shorter);
       line = cc;
     }
 
-pub disjuncts-returns-in-Err-clause-exact : goal.disjuncts-returns-in-Err-clause-exact
-disjuncts-returns-in-Err-clause-exact t c =
-    chain_fails (codes "or") (conjunction_by (part_by c.args.style c.args.room)) (map condition_of c.loop-part.parts.items) (pending c.loop-part.begun c.loop-part.cursor.tokens)
+pub disjuncts-returns-in_err-part-clause-exact : goal.disjuncts-returns-in_err-part-clause-exact
+disjuncts-returns-in_err-part-clause-exact t c =
+    let p = err_from_is_err_and c.from_residual.result c.from_residual.ensures.1 in
+    rw (p.1, p.2)
+    (chain_fails (codes "or") (conjunction_by (part_by c.args.style c.args.room)) (map condition_of c.loop-parts.parts.items) (pending c.loop-parts.begun c.loop-parts.cursor.tokens)
     (chain_by (codes "or") (conjunction_by (part_by c.args.style c.args.room)) (suc (length c.args.cursor.now.tokens)) (pending c.args.begun.now c.args.cursor.now.tokens))
-    c.loop-part.invariant.so_far c.in-Err.halt c.in-Err.ensures.exact
+    c.loop-parts.invariant.so_far c.in_err-part.field-0.0 c.in_err-part.ensures.exact)
 
 pub disjuncts-returns-then-not-says-clause-exact : goal.disjuncts-returns-then-not-says-clause-exact
 disjuncts-returns-then-not-says-clause-exact t c =
-    chain_ends (codes "or") (conjunction_by (part_by c.args.style c.args.room)) (map condition_of c.loop-part.parts.items) (pending c.loop-part.begun c.loop-part.cursor.tokens)
+    chain_ends (codes "or") (conjunction_by (part_by c.args.style c.args.room)) (map condition_of c.loop-parts.parts.items) (pending c.loop-parts.begun c.loop-parts.cursor.tokens)
     (chain_by (codes "or") (conjunction_by (part_by c.args.style c.args.room)) (suc (length c.args.cursor.now.tokens)) (pending c.args.begun.now c.args.cursor.now.tokens))
-    c.loop-part.invariant.so_far (condition_of c.in-Ok.part) (pending c.conjunction.new.begun c.conjunction.new.cursor.tokens) c.in-Ok.ensures.exact
+    c.loop-parts.invariant.so_far (condition_of c.in_ok-part.part) (pending c.conjunction.new.begun c.conjunction.new.cursor.tokens) c.in_ok-part.ensures.exact
     (sym c.says.ensures ∙ c.if-not-says.true)
-    ∙ ap (λ (cs : List Condition). Ok (cs, pending c.conjunction.new.begun c.conjunction.new.cursor.tokens)) (sym (pushed c.loop-part.parts.items c.in-Ok.part c.push.new.self.items c.in_ok-push-in-Ok.ensures.items))
+    ∙ ap (λ (cs : List Condition). Ok (cs, pending c.conjunction.new.begun c.conjunction.new.cursor.tokens)) (sym (pushed c.loop-parts.parts.items c.in_ok-part.part c.push.new.self.items c.in_ok-push.ensures.items))
 
-pub disjuncts-loop-part-smaller : goal.disjuncts-loop-part-smaller
-disjuncts-loop-part-smaller t c =
-    let shorter = conjunction_shortens c.args.style c.args.room (pending c.loop-part.begun c.loop-part.cursor.tokens) (condition_of c.in-Ok.part, pending c.conjunction.new.begun c.conjunction.new.cursor.tokens) c.in-Ok.ensures.exact in
+pub disjuncts-loop-parts-smaller : goal.disjuncts-loop-parts-smaller
+disjuncts-loop-parts-smaller t c =
+    let shorter = conjunction_shortens c.args.style c.args.room (pending c.loop-parts.begun c.loop-parts.cursor.tokens) (condition_of c.in_ok-part.part, pending c.conjunction.new.begun c.conjunction.new.cursor.tokens) c.in_ok-part.ensures.exact in
     let fewer = ap length (says_is (codes "or") c.conjunction.new.cursor.tokens (sym c.says.ensures ∙ c.if-not-says.false)) in
     rw c.advance.ensures (omega (arith, shorter, fewer))
 
-pub disjuncts-loop-part-preserved : goal.disjuncts-loop-part-preserved
-disjuncts-loop-part-preserved t c =
-    let shorter = conjunction_shortens c.args.style c.args.room (pending c.loop-part.begun c.loop-part.cursor.tokens) (condition_of c.in-Ok.part, pending c.conjunction.new.begun c.conjunction.new.cursor.tokens) c.in-Ok.ensures.exact in
+pub disjuncts-loop-parts-preserved : goal.disjuncts-loop-parts-preserved
+disjuncts-loop-parts-preserved t c =
+    let shorter = conjunction_shortens c.args.style c.args.room (pending c.loop-parts.begun c.loop-parts.cursor.tokens) (condition_of c.in_ok-part.part, pending c.conjunction.new.begun c.conjunction.new.cursor.tokens) c.in_ok-part.ensures.exact in
     record {
-      so_far = rw (c.advance.ensures, pushed c.loop-part.parts.items c.in-Ok.part c.push.new.self.items c.in_ok-push-in-Ok.ensures.items)
-          (chain_goes_on (codes "or") (conjunction_by (part_by c.args.style c.args.room)) (map condition_of c.loop-part.parts.items) (pending c.loop-part.begun c.loop-part.cursor.tokens)
+      so_far = rw (c.advance.ensures, pushed c.loop-parts.parts.items c.in_ok-part.part c.push.new.self.items c.in_ok-push.ensures.items)
+          (chain_goes_on (codes "or") (conjunction_by (part_by c.args.style c.args.room)) (map condition_of c.loop-parts.parts.items) (pending c.loop-parts.begun c.loop-parts.cursor.tokens)
           (chain_by (codes "or") (conjunction_by (part_by c.args.style c.args.room)) (suc (length c.args.cursor.now.tokens)) (pending c.args.begun.now c.args.cursor.now.tokens))
-          c.loop-part.invariant.so_far (condition_of c.in-Ok.part) (pending c.conjunction.new.begun c.conjunction.new.cursor.tokens) c.in-Ok.ensures.exact
+          c.loop-parts.invariant.so_far (condition_of c.in_ok-part.part) (pending c.conjunction.new.begun c.conjunction.new.cursor.tokens) c.in_ok-part.ensures.exact
           (sym c.says.ensures ∙ c.if-not-says.false) shorter);
       line = cc;
     }
@@ -92,11 +97,14 @@ part-returns-in-True-clause-exact t c = rw (c.advance.ensures, condition_of-True
 pub part-returns-in-False-clause-exact : goal.part-returns-in-False-clause-exact
 part-returns-in-False-clause-exact t c = rw (c.advance-in-False.ensures, condition_of-False) (part_false c.args.style c.args.room (pending c.args.begun.now c.args.cursor.now.tokens) (sym c.in-False.ensures))
 
-pub part-returns-in-Ok-clause-exact : goal.part-returns-in-Ok-clause-exact
-part-returns-in-Ok-clause-exact t c = part_delay c.args.style c.args.room (pending c.args.begun.now c.args.cursor.now.tokens) (sym c.in-Delay.ensures) ∙ c.in-Ok.ensures.exact
+pub part-returns-in_ok-delay-in-Delay-clause-exact : goal.part-returns-in_ok-delay-in-Delay-clause-exact
+part-returns-in_ok-delay-in-Delay-clause-exact t c = part_delay c.args.style c.args.room (pending c.args.begun.now c.args.cursor.now.tokens) (sym c.in-Delay.ensures) ∙ c.in_ok-delay-in-Delay.ensures.exact
 
-pub part-returns-in-Err-clause-exact : goal.part-returns-in-Err-clause-exact
-part-returns-in-Err-clause-exact t c = part_delay c.args.style c.args.room (pending c.args.begun.now c.args.cursor.now.tokens) (sym c.in-Delay.ensures) ∙ c.in-Err.ensures.exact
+pub part-returns-in_err-delay-in-Delay-clause-exact : goal.part-returns-in_err-delay-in-Delay-clause-exact
+part-returns-in_err-delay-in-Delay-clause-exact t c =
+    let p = err_from_is_err_and c.from_residual.result c.from_residual.ensures.1 in
+    rw (p.1, p.2)
+    (part_delay c.args.style c.args.room (pending c.args.begun.now c.args.cursor.now.tokens) (sym c.in-Delay.ensures) ∙ c.in_err-delay-in-Delay.ensures.exact)
 
 pub part-returns-in-Comparison-clause-exact : goal.part-returns-in-Comparison-clause-exact
 part-returns-in-Comparison-clause-exact t c =

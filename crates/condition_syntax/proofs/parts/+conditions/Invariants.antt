@@ -27,22 +27,22 @@ decreases-bracketed l = 8 * l.room + 5
 abbrev pub decreases-opposite : goal.decreases-opposite
 decreases-opposite l = 8 * l.room + 5
 
-abbrev pub invariant-conjuncts-loop-part : goal.invariant-conjuncts-loop-part
-invariant-conjuncts-loop-part l = record {
+abbrev pub invariant-conjuncts-loop-parts : goal.invariant-conjuncts-loop-parts
+invariant-conjuncts-loop-parts l = record {
   so_far : ChainSoFar (codes "and") (part_by l.style l.room) (map condition_of l.parts.items) (pending l.begun l.cursor.tokens)
       (chain_by (codes "and") (part_by l.style l.room) (suc (length l.initial.cursor.tokens)) (pending l.initial.begun l.initial.cursor.tokens));
   line : l.cursor.line ≡ l.initial.cursor.line;
 }
 
-abbrev pub decreases-conjuncts-loop-part : goal.decreases-conjuncts-loop-part
-decreases-conjuncts-loop-part l = length l.cursor.tokens
+abbrev pub decreases-conjuncts-loop-parts : goal.decreases-conjuncts-loop-parts
+decreases-conjuncts-loop-parts l = length l.cursor.tokens
 
-abbrev pub invariant-disjuncts-loop-part : goal.invariant-disjuncts-loop-part
-invariant-disjuncts-loop-part l = record {
+abbrev pub invariant-disjuncts-loop-parts : goal.invariant-disjuncts-loop-parts
+invariant-disjuncts-loop-parts l = record {
   so_far : ChainSoFar (codes "or") (conjunction_by (part_by l.style l.room)) (map condition_of l.parts.items) (pending l.begun l.cursor.tokens)
       (chain_by (codes "or") (conjunction_by (part_by l.style l.room)) (suc (length l.initial.cursor.tokens)) (pending l.initial.begun l.initial.cursor.tokens));
   line : l.cursor.line ≡ l.initial.cursor.line;
 }
 
-abbrev pub decreases-disjuncts-loop-part : goal.decreases-disjuncts-loop-part
-decreases-disjuncts-loop-part l = length l.cursor.tokens
+abbrev pub decreases-disjuncts-loop-parts : goal.decreases-disjuncts-loop-parts
+decreases-disjuncts-loop-parts l = length l.cursor.tokens

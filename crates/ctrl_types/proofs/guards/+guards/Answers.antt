@@ -1,4 +1,5 @@
 use Rattle.std.proofs.Common.{rules, map, sym, ap, subst, ◌∙◌, Ok}
+use Rattle.std.proofs.lemmas.Result.{err_from_is_err_and}
 use Rattle.condition_syntax.specs.declared.conditions.Cond.{Cond}
 use Rattle.condition_syntax.specs.declared.conditions.Cond.TheViews.{the_lemmas}
 use Rattle.condition_syntax.specs.Trees.{Condition, condition_of}
@@ -18,26 +19,30 @@ gate-gates-requires-in-Or t c =
     let readable = parts_of_Or c.args.condition.now c.in-Or.parts c.in-Or.is c.requires.condition_in in
     search (rules, the_lemmas, readable)
 
-pub gate-returns-in-Ok-gates-clause-exact : goal.gate-returns-in-Ok-gates-clause-exact
-gate-returns-in-Ok-gates-clause-exact t c =
-    ap (λ (x : Cond). gate_by c.args.states.now (condition_of x) c.args.seen.now) c.in-And.is
-    ∙ ap (λ (x : Condition). gate_by c.args.states.now x c.args.seen.now) (condition_of-And c.in-And.parts)
-    ∙ all_gives c.args.states.now (map condition_of c.in-And.parts.items) c.args.seen.now c.gates.new.seen (map test_of c.in-Ok-gates.gates.items) c.in-Ok-gates.ensures.exact
-    ∙ ap (λ (x : Test). Ok (x, c.gates.new.seen)) (sym (test_of-And c.in-Ok-gates.gates))
+pub gate-returns-in_ok-gates-in-And-clause-exact : goal.gate-returns-in_ok-gates-in-And-clause-exact
+gate-returns-in_ok-gates-in-And-clause-exact t c =
+    ap (λ (x : Cond). gate_by c.args.scope.now.states.now (condition_of x) c.args.seen.now) c.in-And.is
+    ∙ ap (λ (x : Condition). gate_by c.args.scope.now.states.now x c.args.seen.now) (condition_of-And c.in-And.parts)
+    ∙ all_gives c.args.scope.now.states.now (map condition_of c.in-And.parts.items) c.args.seen.now c.gates.new.seen (map test_of c.in_ok-gates-in-And.field-0.items) c.in_ok-gates-in-And.ensures.exact
+    ∙ ap (λ (x : Test). Ok (x, c.gates.new.seen)) (sym (test_of-And c.in_ok-gates-in-And.field-0))
 
-pub gate-returns-in-Ok-gates-2-clause-exact : goal.gate-returns-in-Ok-gates-2-clause-exact
-gate-returns-in-Ok-gates-2-clause-exact t c =
-    ap (λ (x : Cond). gate_by c.args.states.now (condition_of x) c.args.seen.now) c.in-Or.is
-    ∙ ap (λ (x : Condition). gate_by c.args.states.now x c.args.seen.now) (condition_of-Or c.in-Or.parts)
-    ∙ any_gives c.args.states.now (map condition_of c.in-Or.parts.items) c.args.seen.now c.gates-in-Or.new.seen (map test_of c.in-Ok-gates-2.gates.items) c.in-Ok-gates-2.ensures.exact
-    ∙ ap (λ (x : Test). Ok (x, c.gates-in-Or.new.seen)) (sym (test_of-Or c.in-Ok-gates-2.gates))
+pub gate-returns-in_ok-gates-in-Or-clause-exact : goal.gate-returns-in_ok-gates-in-Or-clause-exact
+gate-returns-in_ok-gates-in-Or-clause-exact t c =
+    ap (λ (x : Cond). gate_by c.args.scope.now.states.now (condition_of x) c.args.seen.now) c.in-Or.is
+    ∙ ap (λ (x : Condition). gate_by c.args.scope.now.states.now x c.args.seen.now) (condition_of-Or c.in-Or.parts)
+    ∙ any_gives c.args.scope.now.states.now (map condition_of c.in-Or.parts.items) c.args.seen.now c.gates-in-Or.new.seen (map test_of c.in_ok-gates-in-Or.field-0.items) c.in_ok-gates-in-Or.ensures.exact
+    ∙ ap (λ (x : Test). Ok (x, c.gates-in-Or.new.seen)) (sym (test_of-Or c.in_ok-gates-in-Or.field-0))
 
-pub gate-returns-in-And-clause-exact : goal.gate-returns-in-And-clause-exact
-gate-returns-in-And-clause-exact t c =
-    subst (λ (x : Condition). Halts c.in-Err-gates.halt (gate_by c.args.states.now x c.args.seen.now)) (sym (ap condition_of c.in-And.is ∙ condition_of-And c.in-And.parts))
-    (all_halts c.args.states.now (map condition_of c.in-And.parts.items) c.args.seen.now c.in-Err-gates.halt c.in-Err-gates.ensures.exact)
+pub gate-returns-in_err-gates-in-And-clause-exact : goal.gate-returns-in_err-gates-in-And-clause-exact
+gate-returns-in_err-gates-in-And-clause-exact t c =
+    let p = err_from_is_err_and c.from_residual-in_err-gates-in-And.result c.from_residual-in_err-gates-in-And.ensures.1 in
+    rw (p.1, p.2)
+    (subst (λ (x : Condition). Halts c.in_err-gates-in-And.field-0.0 (gate_by c.args.scope.now.states.now x c.args.seen.now)) (sym (ap condition_of c.in-And.is ∙ condition_of-And c.in-And.parts))
+    (all_halts c.args.scope.now.states.now (map condition_of c.in-And.parts.items) c.args.seen.now c.in_err-gates-in-And.field-0.0 c.in_err-gates-in-And.ensures.exact))
 
-pub gate-returns-clause-exact : goal.gate-returns-clause-exact
-gate-returns-clause-exact t c =
-    subst (λ (x : Condition). Halts c.in-Err-gates-2.halt (gate_by c.args.states.now x c.args.seen.now)) (sym (ap condition_of c.in-Or.is ∙ condition_of-Or c.in-Or.parts))
-    (any_halts c.args.states.now (map condition_of c.in-Or.parts.items) c.args.seen.now c.in-Err-gates-2.halt c.in-Err-gates-2.ensures.exact)
+pub gate-returns-in_err-gates-in-Or-clause-exact : goal.gate-returns-in_err-gates-in-Or-clause-exact
+gate-returns-in_err-gates-in-Or-clause-exact t c =
+    let p = err_from_is_err_and c.from_residual-in_err-gates-in-Or.result c.from_residual-in_err-gates-in-Or.ensures.1 in
+    rw (p.1, p.2)
+    (subst (λ (x : Condition). Halts c.in_err-gates-in-Or.field-0.0 (gate_by c.args.scope.now.states.now x c.args.seen.now)) (sym (ap condition_of c.in-Or.is ∙ condition_of-Or c.in-Or.parts))
+    (any_halts c.args.scope.now.states.now (map condition_of c.in-Or.parts.items) c.args.seen.now c.in_err-gates-in-Or.field-0.0 c.in_err-gates-in-Or.ensures.exact))

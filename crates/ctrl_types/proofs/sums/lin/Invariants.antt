@@ -8,6 +8,6 @@ use Rattle.ctrl_types.proofs.sums.lin.Given as goal
 
 abbrev pub invariant-loop-term : goal.invariant-loop-term
 invariant-loop-term l = record {
-  told : front_terms l.terms (terms_of l.states l.signals (drop l.term-index l.term-items)) ≡ terms_of l.states l.signals l.term-items;
+  told : front_terms l.terms (terms_of l.scope.states.now l.signals (drop l.term-index l.term-items)) ≡ terms_of l.scope.states.now l.signals l.term-items;
   within : All (λ (t : LinTerm). IsNum t.coef) l.terms;
 }

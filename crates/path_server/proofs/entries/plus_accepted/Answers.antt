@@ -11,8 +11,8 @@ loop-index-preserved c =
     (λ f. times c.args.scale.now.unit (arrived c.args.run.now c.args.row f) ∷ times c.args.scale.now.minus (lost c.args.run.now c.args.row f) ∷ [])
     c.loop-index.index c.loop-index.invariant
     (c.plus_all-weighing.ensures ∙ two_terms c.loop-index.weighing
-    c.args.scale.now.unit c.entries-now.result.now.a _ c.args.scale.now.minus c.entries-now.result.now.l _
-    (omega (arith, c.requires.scale_in.unit_to)) c.entries-now.ensures.a_in
-    (ap (λ (e : FlowRow). e.a) c.entries-now.ensures.value)
-    (omega (arith, c.requires.scale_in.minus_to)) c.entries-now.ensures.l_in
-    (ap (λ (e : FlowRow). e.l) c.entries-now.ensures.value))
+    c.args.scale.now.unit c.flow-now.result.now.a _ c.args.scale.now.minus c.flow-now.result.now.l _
+    (omega (arith, c.requires.scale_in.unit_to)) (c.flow-now.ensures.within c.requires.run_in).a_in
+    (ap (λ (e : FlowRow). e.a) c.flow-now.ensures.value)
+    (omega (arith, c.requires.scale_in.minus_to)) (c.flow-now.ensures.within c.requires.run_in).l_in
+    (ap (λ (e : FlowRow). e.l) c.flow-now.ensures.value))

@@ -42,5 +42,5 @@ returns-then-flow-eq0 c =
 pub returns : goal.returns
 returns c =
     c.flow_grows.ensures ∙ ap (outcome c.args.row)
-    (of_flow c.args.run.now c.args.row c.args.flow c.entries.result.now c.entries-2.result.now
-    c.if-row-eq0.false c.if-flow-eq0.false c.entries.ensures.value c.entries-2.ensures.value)
+    (of_flow c.args.run.now c.args.row c.args.flow c.flow.result.now c.flow-2.result.now
+    c.if-row-eq0.false c.if-flow-eq0.false c.flow.ensures.value c.flow-2.ensures.value)

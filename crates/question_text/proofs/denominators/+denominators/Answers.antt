@@ -1,10 +1,10 @@
-use Rattle.std.proofs.Common.{rules, ◌≡◌, map, ap, ◌∙◌}
+use Rattle.std.proofs.Common.{rules, map, ap, ◌∙◌}
 use Rattle.std.specs.List.{flat_map}
 use Rattle.condition_syntax.specs.declared.conditions.Cond.TheViews.{the_lemmas}
 use Rattle.condition_syntax.specs.Trees.{condition_of}
 use Rattle.ctrl_types.specs.Denominators.{with_numbers}
-use Rattle.ctrl_types.specs.Statements.{coefs, condition_numbers}
-use Rattle.question_text.proofs.DenominatorLaws.{numbers-append, True_numbers, False_numbers, And_numbers, Or_numbers, parts_of_And, parts_of_Or, asked_next, parts_go_on, parts_end}
+use Rattle.ctrl_types.specs.Statements.{condition_numbers}
+use Rattle.question_text.proofs.DenominatorLaws.{True_numbers, False_numbers, And_numbers, Or_numbers, parts_of_And, parts_of_Or, asked_next, parts_go_on, parts_end}
 use Rattle.question_text.proofs.denominators.+denominators.Goals as goal
 
 pub with_condition-with_parts-requires : goal.with_condition-with_parts-requires

@@ -1,7 +1,7 @@
 use Rattle.std.proofs.Common.{ap, sym, ◌∙◌}
 use Rattle.ctrl_types.specs.Denominators.{with_numbers}
 use Rattle.ctrl_types.specs.Statements.{coefs}
-use Rattle.question_text.proofs.DenominatorLaws.{numbers-append}
+use Rattle.ctrl_types.proofs.DenominatorLaws.{numbers-append}
 use Rattle.question_text.proofs.denominators.with_comparison.Goals as goal
 
 pub returns-clause-exact : goal.returns-clause-exact

@@ -1,4 +1,5 @@
 use Rattle.std.proofs.Common.{◌≡◌, List, map, ap, sym, ◌∙◌}
+use Rattle.std.proofs.lemmas.Result.{err_from_is_err_and}
 use Rattle.path_server.specs.declared.settings.Setting.{Setting}
 use Rattle.condition_syntax.specs.Trees as written
 use Rattle.condition_syntax.specs.declared.conditions.Cond.{Cond}
@@ -8,21 +9,25 @@ use Rattle.question_text.specs.Resolving.{meant}
 use Rattle.question_text.proofs.TreeLaws.{And_gives, And_fails, Or_gives, Or_fails, each_found-map, part_meant, parts_go_on, parts_fail, parts_end}
 use Rattle.question_text.proofs.trees.+resolved.Goals as goal
 
-pub condition-returns-in-Ok-conditions : goal.condition-returns-in-Ok-conditions
-condition-returns-in-Ok-conditions t c =
-    And_gives c.args.states.now c.args.setting.now c.args.line c.args.cond.now c.in-And.parts c.in-And.is c.in-Ok-conditions.resolved c.in-Ok-conditions.ensures
+pub condition-returns-in_ok-conditions-in-And : goal.condition-returns-in_ok-conditions-in-And
+condition-returns-in_ok-conditions-in-And t c =
+    And_gives c.args.states.now c.args.setting.now c.args.line c.args.cond.now c.in-And.parts c.in-And.is _ c.in_ok-conditions-in-And.ensures
 
-pub condition-returns-in-And : goal.condition-returns-in-And
-condition-returns-in-And t c =
-    And_fails c.args.states.now c.args.setting.now c.args.line c.args.cond.now c.in-And.parts c.in-And.is c.in-Err-conditions.fault c.in-Err-conditions.ensures
+pub condition-returns-in_err-conditions-in-And : goal.condition-returns-in_err-conditions-in-And
+condition-returns-in_err-conditions-in-And t c =
+    let p = err_from_is_err_and c.from_residual-in_err-conditions-in-And.result c.from_residual-in_err-conditions-in-And.ensures.1 in
+    rw (p.1, p.2)
+    (And_fails c.args.states.now c.args.setting.now c.args.line c.args.cond.now c.in-And.parts c.in-And.is _ c.in_err-conditions-in-And.ensures)
 
-pub condition-returns-in-Ok-conditions-2 : goal.condition-returns-in-Ok-conditions-2
-condition-returns-in-Ok-conditions-2 t c =
-    Or_gives c.args.states.now c.args.setting.now c.args.line c.args.cond.now c.in-Or.parts c.in-Or.is c.in-Ok-conditions-2.resolved c.in-Ok-conditions-2.ensures
+pub condition-returns-in_ok-conditions-in-Or : goal.condition-returns-in_ok-conditions-in-Or
+condition-returns-in_ok-conditions-in-Or t c =
+    Or_gives c.args.states.now c.args.setting.now c.args.line c.args.cond.now c.in-Or.parts c.in-Or.is _ c.in_ok-conditions-in-Or.ensures
 
-pub condition-returns : goal.condition-returns
-condition-returns t c =
-    Or_fails c.args.states.now c.args.setting.now c.args.line c.args.cond.now c.in-Or.parts c.in-Or.is c.in-Err-conditions-2.fault c.in-Err-conditions-2.ensures
+pub condition-returns-in_err-conditions-in-Or : goal.condition-returns-in_err-conditions-in-Or
+condition-returns-in_err-conditions-in-Or t c =
+    let p = err_from_is_err_and c.from_residual-in_err-conditions-in-Or.result c.from_residual-in_err-conditions-in-Or.ensures.1 in
+    rw (p.1, p.2)
+    (Or_fails c.args.states.now c.args.setting.now c.args.line c.args.cond.now c.in-Or.parts c.in-Or.is _ c.in_err-conditions-in-Or.ensures)
 
 -- the parts as they are written, and as trees
 all_parts : (states : List State) (s : Setting) (items parts : List Cond) → items ≡ parts
@@ -30,17 +35,19 @@ all_parts : (states : List State) (s : Setting) (items parts : List Cond) → it
 all_parts states s items parts same =
     ap (each_found (part_meant states s)) same ∙ sym (each_found-map (meant states s) written.condition_of parts)
 
-pub conditions-returns-in-Err : goal.conditions-returns-in-Err
-conditions-returns-in-Err t c =
-    parts_fail c.args.states.now c.args.setting.now c.args.line c.deref-part-items.result.now c.loop-part.part-index c.loop-part.resolved.items
+pub conditions-returns-in_err-condition : goal.conditions-returns-in_err-condition
+conditions-returns-in_err-condition t c =
+    let p = err_from_is_err_and c.from_residual.result c.from_residual.ensures.1 in
+    rw (p.1, p.2)
+    (parts_fail c.args.states.now c.args.setting.now c.args.line c.deref-part-items.result.now c.loop-part.part-index c.loop-part.resolved.items
     (each_found (meant c.args.states.now c.args.setting.now) (map written.condition_of c.args.parts.now.items))
     (c.loop-part.invariant ∙ all_parts c.args.states.now c.args.setting.now c.deref-part-items.result.now c.args.parts.now.items c.deref-part-items.ensures.value)
-    c.part-item.result c.in-Err.fault c.part-item.is c.loop-part-test.true c.in-Err.ensures
+    c.part-item.result _ c.part-item.is c.loop-part-test.true c.in_err-condition.ensures)
 
 pub conditions-loop-part-preserved : goal.conditions-loop-part-preserved
 conditions-loop-part-preserved t c =
     parts_go_on c.args.states.now c.args.setting.now c.args.line c.deref-part-items.result.now c.loop-part.part-index c.loop-part.resolved.items _ c.loop-part.invariant
-    c.part-item.result c.in-Ok.inner c.push.new.self.items c.part-item.is c.loop-part-test.true c.in-Ok.ensures c.in-Ok-push.ensures.items
+    c.part-item.result _ c.push.new.self.items c.part-item.is c.loop-part-test.true c.in_ok-condition.ensures c.in_ok-push.ensures.items
 
 pub conditions-returns : goal.conditions-returns
 conditions-returns t c =

@@ -1,5 +1,4 @@
-use Rattle.std.proofs.Common.{◌≡◌, ap, sym, ◌∙◌, Result, Err}
-use Rattle.whole.specs.declared.answers.ReadFault.{ReadFault}
+use Rattle.std.proofs.Common.{ap, sym, ◌∙◌, Err}
 use Rattle.question_text.specs.Naming.{term_meant}
 use Rattle.question_text.proofs.FoundLoop.{goes_on, stops, ends}
 use Rattle.question_text.proofs.TreeLaws.{lin_found, lin_missing, term_found, term_missing}
@@ -14,7 +13,7 @@ returns-in-None c =
 
 pub loop-term-preserved : goal.loop-term-preserved
 loop-term-preserved c =
-    rw c.in-Ok.ensures.ok
+    rw c.in_ok-push.ensures.ok
     (goes_on (term_meant c.args.states.now c.args.setting.now) c.as_slice-term-items.result.now c.loop-term.term-index c.loop-term.terms _ c.loop-term.invariant
     c.term-item.result _ c.term-item.is c.loop-term-test.true (term_found c.args.states.now c.args.setting.now c.term-item.result c.in-Some.of c.in-Some.ensures))
 

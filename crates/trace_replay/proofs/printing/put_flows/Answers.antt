@@ -9,7 +9,7 @@ pub loop-i-preserved : goal.loop-i-preserved
 loop-i-preserved c =
     let i = c.loop-i.i in
     lines_go_on flow_lines c.index-flows-i.result c.args.flows.now i (1 + i) (1 + (i + 1)) (string_bytes c.args.out.now) (string_bytes c.loop-i.out) (string_bytes c.put_flow.new.out)
-    (text (numbered flow_lines 1 c.args.flows.now)) c.loop-i-test.true c.index-flows-i.is (omega arith) c.loop-i.invariant c.in-Ok.ensures
+    (text (numbered flow_lines 1 c.args.flows.now)) c.loop-i-test.true c.index-flows-i.is (omega arith) c.loop-i.invariant c.in_ok-put_flow.ensures
 
 pub returns : goal.returns
 returns c =

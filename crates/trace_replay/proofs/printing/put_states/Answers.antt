@@ -10,7 +10,7 @@ pub loop-state-preserved : goal.loop-state-preserved
 loop-state-preserved c =
     let fits : FitsSigned w128 (get_or c.args.states.now c.loop-state.state-index (pos 0)) = search rules in
     spaced_goes_on signed_decimal (pos 0) c.args.states.now c.loop-state.state-index (string_bytes c.args.out.now) (string_bytes c.loop-state.out) (string_bytes c.put_state.new.out)
-    (spaced (map signed_decimal c.args.states.now)) c.loop-state-test.true c.loop-state.invariant (simp to_z-of_z at c.in-Ok.ensures)
+    (spaced (map signed_decimal c.args.states.now)) c.loop-state-test.true c.loop-state.invariant (simp to_z-of_z at c.in_ok-put_state.ensures)
 
 pub returns : goal.returns
 returns c =

@@ -13,7 +13,7 @@ returns-in_err-examine_row c =
     let g = places_of_row c.args.controller.now c.args.question.now c.args.run.now in
     rw (p.1, p.2) (sym (first-flat_map f g (below (length c.args.run.now.rows))
     ∙ first_stops (λ i. first f (g i)) _ c.loop-row.row (length c.args.run.now.rows)
-    c.loop-row.invariant (sym c.examine_row.ensures ∙ c.in_err-examine_row.was) (omega (arith, c.loop-row-test.true, c.len-row-end.ensures))))
+    c.loop-row.invariant (sym c.examine_row.ensures ∙ c.in_err-examine_row.was) (omega (arith, c.loop-row-test.true, c.row_count-row-end.ensures))))
 
 pub loop-row-preserved : goal.loop-row-preserved
 loop-row-preserved c =
@@ -26,6 +26,6 @@ unfolding places_of_rows
 returns c =
     let f = found c.args.controller.now c.args.question.now c.args.run.now in
     let g = places_of_row c.args.controller.now c.args.question.now c.args.run.now in
-    let all : c.loop-row.row ≡ length c.args.run.now.rows = omega (arith, c.loop-row-test.false, c.len-row-end.ensures) in
+    let all : c.loop-row.row ≡ length c.args.run.now.rows = omega (arith, c.loop-row-test.false, c.row_count-row-end.ensures) in
     sym (first-flat_map f g (below (length c.args.run.now.rows))
     ∙ subst (λ n. first (λ i. first f (g i)) (below n) ≡ Ok tt) all c.loop-row.invariant)

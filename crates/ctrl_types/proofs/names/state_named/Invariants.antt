@@ -1,8 +1,0 @@
-use Rattle.std.proofs.Common.{◌≡◌, drop}
-use Rattle.std.specs.List.{position_from}
-use Rattle.ctrl_types.specs.Names.{has_name}
-use Rattle.ctrl_types.proofs.names.state_named.Given as goal
-
--- the states to come have the first one with the name
-abbrev pub invariant-loop-number : goal.invariant-loop-number
-invariant-loop-number l = position_from (has_name l.word) l.number (drop l.number l.states) ≡ position_from (has_name l.word) 0 l.states

@@ -1,0 +1,80 @@
+-- Which texts are those of questions for a controller depends on the controller only as it is seen, and what a question
+-- claims of a run depends on the question only as it is seen.
+use Rattle.std.proofs.Common.{◌≡◌, ℕ, Bool, List, [], Result, Ok, Some, map, inl, inr, ap, subst}
+use Rattle.std.specs.Prelude.{All}
+use Rattle.whole.specs.declared.answers.Refusal.{Refusal}
+use Rattle.whole.specs.declared.answers.Stuck.{Stuck}
+use Rattle.weighing.specs.Claim.{both_of, not_of, outcome}
+use Rattle.weighing.specs.First.{IsFirst}
+use Rattle.run_rows.specs.declared.rows.Run.{Run}
+use Rattle.path_server.specs.declared.settings.Setting.{Setting}
+use Rattle.ctrl_types.specs.Resolving.{SeenController, controller_seen}
+use Rattle.ctrl_types.specs.declared.controllers.Controller.{Controller}
+use Rattle.ctrl_types.specs.declared.controllers.State.{State}
+use Rattle.ctrl_meaning.proofs.SeenLaws.{unruled}
+use Rattle.question_syntax.specs.Sections.{Sections, Wanted}
+use Rattle.question_text.specs.Conditions.{conjunction}
+use Rattle.question_text.specs.Expressions.{condition_claim}
+use Rattle.question_text.specs.Naming.{each_found}
+use Rattle.question_text.specs.Resolving.{IsFirstBroken, IsUnbroken, Resolves, SeenQuestion, Statement, judged, meant, passes_limit, question_seen, statements}
+use Rattle.question_text.specs.Texts.{BreaksFirst, IsRefused, IsTextOf}
+use Rattle.question_text.specs.Violation.{rows_of, violation}
+use Rattle.question_text.specs.declared.conditions.QCond.TheVariants.{True}
+use Rattle.question_text.specs.declared.questions.Question.{Question}
+
+-- ---- texts
+
+abbrev Judge : Type 0
+Judge = Setting → Statement → Result (Unit {0}) Refusal
+
+module _ (c d : Controller) (same : controller_seen c ≡ controller_seen d) where
+  pub states_same : c.states ≡ d.states
+  states_same = ap (λ (x : SeenController). x.states) same
+
+  judged_same : judged c ≡ judged d
+  unfolding judged passes_limit
+  judged_same = ap (λ (x : SeenController). judged (unruled x)) same
+
+  unbroken_same : (s : Sections) → IsUnbroken c s → IsUnbroken d s
+  unbroken_same s unbroken = subst (λ (judge : Judge). All (λ x. judge s.setting x ≡ Ok tt) (statements s)) judged_same unbroken
+
+  broken_same : (s : Sections) (r : Refusal) → IsFirstBroken c s r → IsFirstBroken d s r
+  broken_same s r broken = subst (λ (judge : Judge). IsFirst (judge s.setting) (statements s) r) judged_same broken
+
+  resolved_same : (s : Sections) (q : SeenQuestion) → Resolves c s q → Resolves d s q
+  resolved_same s q is = record {
+    setting = is.setting;
+    assumes = subst (λ (states : List State). each_found (meant states s.setting) (map (λ (w : Wanted). w.cond) s.assumes) ≡ Some q.assumes) states_same is.assumes;
+    require = subst (λ (states : List State). meant states s.setting s.require.cond ≡ Some q.require) states_same is.require;
+  }
+
+  pub text_same : (bytes : List ℕ) (q : SeenQuestion) → IsTextOf c bytes q → IsTextOf d bytes q
+  text_same bytes q is = record {
+    sections = is.sections;
+    spelled = is.spelled;
+    unbroken = unbroken_same is.sections is.unbroken;
+    resolved = resolved_same is.sections q is.resolved;
+  }
+
+  breaks_same : (bytes : List ℕ) (r : Refusal) → BreaksFirst c bytes r → BreaksFirst d bytes r
+  breaks_same bytes r is = record { sections = is.sections; spelled = is.spelled; broken = broken_same is.sections r is.broken }
+
+  pub refused_same : (bytes : List ℕ) (r : Refusal) → IsRefused c bytes r → IsRefused d bytes r
+  refused_same bytes r (inl refused) = inl refused
+  refused_same bytes r (inr breaks) = inr (breaks_same bytes r breaks)
+
+-- ---- questions
+
+-- a question of this setting that assumes and demands nothing
+abbrev pub unasked : SeenQuestion → Question
+unasked x = record { setting = x.setting; assumes = []; require = True }
+
+-- what comes of weighing a question as it is seen
+abbrev seen_violation : SeenQuestion → Run → Result Bool Stuck
+seen_violation x r =
+    outcome (rows_of (unasked x) r).last
+    (both_of (condition_claim r (rows_of (unasked x) r) (conjunction x.assumes)) (not_of (condition_claim r (rows_of (unasked x) r) x.require)))
+
+pub violation_same : (q p : Question) → question_seen q ≡ question_seen p → (r : Run) → violation q r ≡ violation p r
+unfolding violation
+violation_same q p same r = ap (λ (x : SeenQuestion). seen_violation x r) same

@@ -1,0 +1,24 @@
+// What holds of questions for a controller as texts, and of the names in them, as contracts of functions that do nothing.
+ghost use Rattle.std.specs.Prelude.{◌≡◌, ℕ, List, Some};
+ghost use Rattle.whole.specs.declared.answers.Refusal.{Refusal};
+ghost use Rattle.path_server.specs.declared.settings.Setting.{Setting};
+ghost use Rattle.condition_syntax.specs.declared.expressions.Name.{Name};
+ghost use Rattle.ctrl_types.specs.declared.controllers.Controller.{Controller};
+ghost use Rattle.ctrl_types.specs.declared.controllers.State.{State};
+ghost use Rattle.question_text.specs.declared.conditions.Of.{Of};
+ghost use Rattle.question_text.specs.Naming.{StandsFor, of_named};
+ghost use Rattle.question_text.specs.Resolving.{SeenQuestion};
+ghost use Rattle.question_text.specs.Texts.{IsRefused, IsTextOf};
+
+/// A question's text says one thing alone for a controller, or it has one first broken rule alone.
+pub fn questions_are_told_apart()
+    ensures one_question { (c : Controller) (bytes : List ℕ) (p q : SeenQuestion) → IsTextOf c bytes p → IsTextOf c bytes q → p ≡ q }
+    ensures one_refusal { (c : Controller) (bytes : List ℕ) (r s : Refusal) → IsRefused c bytes r → IsRefused c bytes s → r ≡ s }
+    ensures not_both { (c : Controller) (bytes : List ℕ) (r : Refusal) (q : SeenQuestion) → IsRefused c bytes r → IsTextOf c bytes q → ⊥ }
+{}
+
+/// A name stands for what its cases say, and for nothing else.
+pub fn names_stand_by_their_cases()
+    ensures taken { (states : List State) (s : Setting) (x : Name) (of : Of) → of_named states s x ≡ Some of → StandsFor states s x of }
+    ensures again { (states : List State) (s : Setting) (x : Name) (of : Of) → StandsFor states s x of → of_named states s x ≡ Some of }
+{}
