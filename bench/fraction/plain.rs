@@ -63,23 +63,25 @@ fn checksum(answer: Plain) -> u64 {
     (answer.num.unsigned_abs() & 0xffff_ffff) as u64 ^ (answer.den.unsigned_abs() & 0xffff_ffff) as u64
 }
 
-fn answer(operation: &str, a: Plain, b: Plain) -> u64 {
-    match operation {
-        "add" => checksum(a.add(b)),
-        "mul" => checksum(a.mul(b)),
-        _ => u64::from(a.num * b.den < b.num * a.den),
+fn run(numbers: &[Plain], count: u64, answer: impl Fn(Plain, Plain) -> u64) -> u64 {
+    let mut sum: u64 = 0;
+    for turn in 0..count {
+        let a = numbers[(turn % NUMBERS) as usize];
+        let b = numbers[(turn / NUMBERS % NUMBERS) as usize];
+        sum = sum.wrapping_add(answer(a, b));
     }
+    sum
 }
 
 fn main() {
     let words: Vec<String> = env::args().collect();
     let numbers = numbers(&words[1]);
     let count: u64 = words[3].parse().unwrap();
-    let mut sum: u64 = 0;
-    for turn in 0..count {
-        let a = numbers[(turn % NUMBERS) as usize];
-        let b = numbers[(turn / NUMBERS % NUMBERS) as usize];
-        sum = sum.wrapping_add(answer(&words[2], a, b));
-    }
+    let sum = match words[2].as_str() {
+        "add" => run(&numbers, count, |a, b| checksum(a.add(b))),
+        "mul" => run(&numbers, count, |a, b| checksum(a.mul(b))),
+        "compare" => run(&numbers, count, |a, b| u64::from(a.num * b.den < b.num * a.den)),
+        _ => run(&numbers, count, |a, _| checksum(a)),
+    };
     println!("{sum}");
 }

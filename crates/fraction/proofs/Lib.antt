@@ -1,9 +1,13 @@
 pub mod Adding
 pub mod Dividing
+pub mod Kept
 pub mod Multiplying
 pub mod Pairs
 pub mod ProductLaws
 pub mod Ratios
+pub mod ShortTerms
 pub mod Signs
 pub mod SumLaws
 pub mod SumSteps
+pub mod WholeParts
+pub mod Widths

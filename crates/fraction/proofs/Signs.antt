@@ -2,7 +2,9 @@
 use Rattle.std.proofs.Common.{◌≡◌, ℕ, ◌<◌, ℤ, pos, negsuc, ◌*ℤ◌, ◌≤ℤ◌, ◌<ℤ◌, neg_ℤ, unsigned_abs, ◌↔◌, refl, ap, ap₂, sym, ◌∙◌, subst, arith, mul-pos, lit<, ◌*◌, ◌-ℤ◌, ◌^◌, FitsSigned, to_z, of_z, to_z-of_z, eq-zero-or-pos, inl, inr}
 use Rattle.std.proofs.lemmas.Int.{ints, fits_signed_from_abs}
 use Rattle.std.proofs.Math.IntN.{*ℤ_comm}
-use Rattle.std.specs.Int.{int_signum, w128}
+use Rattle.std.specs.Int.{int_signum}
+use mir.Syntax.{Width}
+use mir.Val.{hbits}
 use Rattle.ordered_field.specs.Rational.{ℚ, whole, neg_ℚ, ◌*ℚ◌}
 use Rattle.ordered_field.specs.Order.{◌<ℚ◌}
 use Rattle.ordered_field.proofs.Fractions.{fraction-same, fraction-product, neg_ℚ-fraction, whole-is_fraction, fraction-zero, zero-fraction, fraction-negative, negative-fraction, fraction-positive, positive-fraction}
@@ -13,11 +15,11 @@ use Rattle.ordered_field.proofs.FieldLaws.{cancel_by_inverse}
 use Rattle.whole.proofs.Integers.{*ℤ-one, one-*ℤ, neg_ℤ-*ℤ, zero_of_size, zero-sub_ℤ, unsigned_abs-neg_ℤ}
 use Rattle.fraction.specs.Value.{rational}
 
--- what the code's opposite of z is
-pub negated : (z : ℤ) → FitsSigned w128 z → unsigned_abs z < 2 ^ 127 → to_z w128 (of_z w128 (pos 0 -ℤ to_z w128 (of_z w128 z))) ≡ neg_ℤ z
-negated z fits small =
+-- what the code's opposite of z is, in any width
+pub negated : (w : Width) (z : ℤ) → FitsSigned w z → unsigned_abs z < 2 ^ hbits w → to_z w (of_z w (pos 0 -ℤ to_z w (of_z w z))) ≡ neg_ℤ z
+negated w z fits small =
     let size = ap unsigned_abs (zero-sub_ℤ z) ∙ unsigned_abs-neg_ℤ z in
-    let opposite : FitsSigned w128 (pos 0 -ℤ z) = fits_signed_from_abs w128 (pos 0 -ℤ z) (omega (arith, size, small)) in
+    let opposite : FitsSigned w (pos 0 -ℤ z) = fits_signed_from_abs w (pos 0 -ℤ z) (omega (arith, size, small)) in
     simp to_z-of_z (zero-sub_ℤ z)
 
 pub opposite_value : (num den : ℤ) (some : pos 1 ≤ℤ den) → rational (neg_ℤ num) den some ≡ neg_ℚ (rational num den some)

@@ -10,7 +10,7 @@ use crate::limit::{Full, Limit, Seven};
 use crate::order::compare_fractions;
 use crate::sized::{bounded, bounded_product};
 use crate::sum::{common_numerator, denominators, reduce_over};
-use lowest_terms::reduce;
+use lowest_terms::{Reduced, reduce};
 use ordered_field::{OrderedField, Wide};
 use std::alloc::AllocError;
 use std::cmp::Ordering;
@@ -40,8 +40,9 @@ impl<L: Limit> Frac<L> {
     ghost use Rattle.std.specs.Prelude.{◌≡◌, ◌<◌, IfOk, OnOk, OnErr};
     ghost use Rattle.fraction.specs.Value.{rational};
     ghost use Rattle.whole.specs.Numbers.{IsWithin};
-    ghost use Rattle.ordered_field.specs.Rational.{whole, ◌*ℚ◌};
-    ghost use Rattle.ordered_field.specs.Wideness.{QuotientExceeds};
+    ghost use Rattle.ordered_field.specs.Rational.{whole, ◌+ℚ◌, ◌*ℚ◌};
+    ghost use Rattle.ordered_field.specs.Wideness.{Exceeds, QuotientExceeds, SumIsWide};
+    ghost use Rattle.fraction.specs.Reduction.{IsReduction};
 
     /// `n / d`, which times `d` is `n`; `d` is at least 1, and `n` isn't `i128::MIN`. `Wide` exactly where
     /// the numerator or the denominator, in lowest terms, exceeds the limit in size.
@@ -59,7 +60,7 @@ impl<L: Limit> Frac<L> {
     }
 
     // The fraction with these parts, which are in lowest terms and within the limit.
-    fn from_parts(num: i128, den: i128) -> Frac<L>
+    pub(crate) fn from_parts(num: i128, den: i128) -> Frac<L>
         requires positive { pos 1 ≤ℤ den }
         requires lowest { IsCoprime (unsigned_abs num) (unsigned_abs den) }
         requires num_within { unsigned_abs num ≤ L.LIMIT }
@@ -72,6 +73,36 @@ impl<L: Limit> Frac<L> {
             den,
             limit: PhantomData,
         }
+    }
+
+    // The sum, where `dens` is one denominator over the other in lowest terms.
+    pub(crate) fn add_over(self, other: Frac<L>, dens: Reduced) -> Result<Frac<L>, Wide>
+        requires { IsReduction dens self.den other.den }
+        ensures exact { IfOk result (λ x. ⟦<Frac<L> as OrderedField>⟧.value x ≡ ⟦<Frac<L> as OrderedField>⟧.value self +ℚ ⟦<Frac<L> as OrderedField>⟧.value other) }
+        ensures kept { OnOk result (¬ SumIsWide L.LIMIT (⟦<Frac<L> as OrderedField>⟧.value self) (⟦<Frac<L> as OrderedField>⟧.value other)) }
+        ensures wide { OnErr result (SumIsWide L.LIMIT (⟦<Frac<L> as OrderedField>⟧.value self) (⟦<Frac<L> as OrderedField>⟧.value other)) }
+    {
+        let num = common_numerator::<L>(self.num, other.num, other.den, dens)?;
+        let lowest = reduce_over(num, dens);
+        Ok(Frac::from_parts(lowest.num, lowest.den))
+    }
+
+    // The product, where `left` and `right` are each numerator over the other's denominator in lowest terms.
+    pub(crate) fn mul_cancelled(
+        self,
+        other: Frac<L>,
+        left: Reduced,
+        right: Reduced,
+    ) -> Result<Frac<L>, Wide>
+        requires left { IsReduction left self.num other.den }
+        requires right { IsReduction right other.num self.den }
+        ensures exact { IfOk result (λ x. ⟦<Frac<L> as OrderedField>⟧.value x ≡ ⟦<Frac<L> as OrderedField>⟧.value self *ℚ ⟦<Frac<L> as OrderedField>⟧.value other) }
+        ensures kept { OnOk result (¬ Exceeds L.LIMIT (⟦<Frac<L> as OrderedField>⟧.value self *ℚ ⟦<Frac<L> as OrderedField>⟧.value other)) }
+        ensures wide { OnErr result (Exceeds L.LIMIT (⟦<Frac<L> as OrderedField>⟧.value self *ℚ ⟦<Frac<L> as OrderedField>⟧.value other)) }
+    {
+        let num = bounded_product::<L>(left.num, right.num)?;
+        let den = bounded_product::<L>(right.den, left.den)?;
+        Ok(Frac::from_parts(num, den))
     }
 
     // One over the number, which isn't zero.
@@ -118,18 +149,13 @@ impl<L: Limit> OrderedField for Frac<L> {
     }
 
     fn add(self, other: Frac<L>) -> Result<Frac<L>, Wide> {
-        let dens = denominators(self.den, other.den);
-        let num = common_numerator::<L>(self.num, other.num, other.den, dens)?;
-        let lowest = reduce_over(num, dens);
-        Ok(Frac::from_parts(lowest.num, lowest.den))
+        self.add_over(other, denominators(self.den, other.den))
     }
 
     fn mul(self, other: Frac<L>) -> Result<Frac<L>, Wide> {
         let left = reduce(self.num, other.den);
         let right = reduce(other.num, self.den);
-        let num = bounded_product::<L>(left.num, right.num)?;
-        let den = bounded_product::<L>(right.den, left.den)?;
-        Ok(Frac::from_parts(num, den))
+        self.mul_cancelled(other, left, right)
     }
 
     fn div(self, other: Frac<L>) -> Result<Frac<L>, Wide> {

@@ -9,7 +9,10 @@
 
 mod frac;
 mod limit;
+mod mixed;
 mod order;
+mod short;
+mod short_terms;
 mod sized;
 mod sum;
 #[cfg(test)]
@@ -17,3 +20,4 @@ mod tests;
 
 pub use frac::{Frac, Frac7, Frac128};
 pub use limit::{Full, Limit, Seven};
+pub use mixed::MixedFrac;

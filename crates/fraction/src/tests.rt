@@ -1,7 +1,7 @@
 ghost use Rattle.std.specs.Prelude.{◌≡◌, pos};
 ghost use Rattle.ordered_field.specs.Rational.{whole};
 
-use crate::{Frac, Frac7, Frac128, Limit};
+use crate::{Frac, Frac7, Frac128, Limit, MixedFrac};
 use ordered_field::{Delta, OrderedField, Wide};
 use std::test::Fail;
 
@@ -98,6 +98,10 @@ fn the_field_is_reached_through_its_bound(rt: HostRuntime) -> Result<(), Fail> {
     if other.sign() != 0 {
         assert_eq!(rt; all_four(half, other)?, want);
     }
+    let (half, other) = (MixedFrac::new(1, 2)?, MixedFrac::new(-3, 4)?);
+    if other.sign() != 0 {
+        assert_eq!(rt; all_four(half, other)?, want);
+    }
     Ok(())
 }
 
@@ -105,5 +109,75 @@ fn the_field_is_reached_through_its_bound(rt: HostRuntime) -> Result<(), Fail> {
 fn an_infinitesimal_is_put_in(rt: HostRuntime) -> Result<(), Fail> {
     let one = small(1, 1)?;
     assert_eq!(rt; Delta::new(one, one).at(small(1, 2)?)?.parts(), (3, 2));
+    Ok(())
+}
+
+// `n / d`, through the bound alone; `Wide` for a denominator of 0
+fn quotient<F: OrderedField>(n: i128, d: i128) -> Result<F, Wide> {
+    let (top, bottom) = (F::from_whole(n)?, F::from_whole(d)?);
+    if bottom.sign() == 0 {
+        return Err(Wide);
+    }
+    top.div(bottom)
+}
+
+fn sum<F: OrderedField>(a: (i128, i128), b: (i128, i128)) -> Result<(i128, i128), Wide> {
+    Ok(quotient::<F>(a.0, a.1)?.add(quotient(b.0, b.1)?)?.parts())
+}
+
+fn product<F: OrderedField>(a: (i128, i128), b: (i128, i128)) -> Result<(i128, i128), Wide> {
+    Ok(quotient::<F>(a.0, a.1)?.mul(quotient(b.0, b.1)?)?.parts())
+}
+
+// The sum in 128 bits, and that in 64 bits while they fit
+fn sums(a: (i128, i128), b: (i128, i128)) -> [Result<(i128, i128), Wide>; 2] {
+    [sum::<Frac128>(a, b), sum::<MixedFrac>(a, b)]
+}
+
+fn products(a: (i128, i128), b: (i128, i128)) -> [Result<(i128, i128), Wide>; 2] {
+    [product::<Frac128>(a, b), product::<MixedFrac>(a, b)]
+}
+
+#[test]
+fn sums_are_the_same_where_64_bits_end(rt: HostRuntime) {
+    let p: i128 = 1 << 63;
+    assert_eq!(rt; sums((p - 1, 1), (1, 1)), [Ok((p, 1)); 2]);
+    assert_eq!(rt; sums((-p, 1), (1, 1)), [Ok((1 - p, 1)); 2]);
+    assert_eq!(rt; sums((1, p), (1, p)), [Ok((1, 1 << 62)); 2]);
+    assert_eq!(rt;
+        sums((1, p), (1, p + 1)),
+        [Ok(((1 << 64) + 1, (1 << 126) + p)); 2]
+    );
+    assert_eq!(rt; sums((1, 1 << 64), (1, (1 << 64) - 1)), [Err(Wide); 2]);
+}
+
+#[test]
+fn products_are_the_same_where_64_bits_end(rt: HostRuntime) {
+    assert_eq!(rt; products((1 << 40, 1), (3, 1)), [Ok((3 << 40, 1)); 2]);
+    assert_eq!(rt;
+        products((-1 << 32, 1), (1 << 31, 1)),
+        [Ok((-1 << 63, 1)); 2]
+    );
+    assert_eq!(rt; products((1 << 126, 1), (2, 1)), [Err(Wide); 2]);
+    assert_eq!(rt; products((i128::MAX, 1), (1, i128::MAX)), [Ok((1, 1)); 2]);
+}
+
+#[test]
+fn numbers_of_two_widths_are_compared(rt: HostRuntime) -> Result<(), Fail> {
+    let p: i128 = 1 << 63;
+    let (short, long) = (MixedFrac::new(p - 1, 1)?, MixedFrac::new(p, 1)?);
+    assert!(rt; short < long);
+    assert!(rt; long.neg() < short.neg());
+    assert!(rt; MixedFrac::new(1, p)? < MixedFrac::new(1, p - 1)?);
+    assert!(rt; MixedFrac::new(2, 3)? < MixedFrac::new(3, 4)?);
+    assert!(rt; MixedFrac::new(2 * p, 2)? == long);
+    assert!(rt; short != long);
+    assert_eq!(rt; long.neg().sign(), -1);
+    assert_eq!(rt; MixedFrac::new(0, 9)?.sign(), 0);
+    assert_eq!(rt;
+        MixedFrac::new(i128::MAX, 2)?.neg().parts(),
+        (-i128::MAX, 2)
+    );
+    assert_eq!(rt; MixedFrac::from_whole(i128::MIN), Err(Wide));
     Ok(())
 }

@@ -10,10 +10,10 @@ use Rattle.fraction.proofs.frac.Frac.inverse.Goals.{Start}
 use Rattle.fraction.proofs.frac.Frac.inverse.Given.{Over}
 
 num_is : (g : Over) (c : Start g) → to_z w128 (of_z w128 (pos 0 -ℤ to_z w128 (of_z w128 c.args.self.num))) ≡ neg_ℤ c.args.self.num
-num_is g c = negated c.args.self.num (search rules) (omega (arith, c.args.self.num_within, g.L.Limit.fits))
+num_is g c = negated w128 c.args.self.num (search rules) (omega (arith, c.args.self.num_within, g.L.Limit.fits))
 
 den_is : (g : Over) (c : Start g) → to_z w128 (of_z w128 (pos 0 -ℤ to_z w128 (of_z w128 c.args.self.den))) ≡ neg_ℤ c.args.self.den
-den_is g c = negated c.args.self.den (search rules) (omega (arith, c.args.self.den_within, g.L.Limit.fits))
+den_is g c = negated w128 c.args.self.den (search rules) (omega (arith, c.args.self.den_within, g.L.Limit.fits))
 
 pub from_parts-requires-clause-lowest : goal.from_parts-requires-clause-lowest
 from_parts-requires-clause-lowest g c =

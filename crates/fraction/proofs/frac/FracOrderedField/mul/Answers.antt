@@ -1,122 +1,32 @@
-use Rattle.std.proofs.Common.{rules, ◌≡◌, ◌<◌, ◌≤ℤ◌, ◌*ℤ◌, pos, unsigned_abs, FitsSigned, to_z-of_z, inl, inr, ◌⊎◌, subst, subst₂, sym, ◌∙◌, arith}
+use Rattle.std.proofs.Common.{rules, FitsSigned, to_z-of_z, arith}
 use Rattle.std.specs.Int.{w128}
-use Rattle.ordered_field.specs.Rational.{◌*ℚ◌}
-use Rattle.ordered_field.specs.Wideness.{Exceeds}
-use Rattle.lowest_terms.specs.Coprime.{IsCoprime}
-use Rattle.fraction.specs.Value.{ratio, rational, same_value, in_lowest_terms}
-use Rattle.fraction.proofs.Pairs.{exceeds_not}
-use Rattle.fraction.proofs.SumSteps.{on_err_of}
-use Rattle.fraction.proofs.Dividing.{exceeds}
-use Rattle.fraction.proofs.Multiplying.{IsCancelled, positive_product, cancelled_coprime, cancelled_value}
 use Rattle.fraction.proofs.frac.FracOrderedField.mul.Goals as goal
-use Rattle.fraction.proofs.frac.FracOrderedField.mul.Goals.{After-reduce-right, In_ok-den}
-use Rattle.fraction.proofs.frac.FracOrderedField.mul.Given.{Over}
 
 pub reduce-right-requires-clause-within : goal.reduce-right-requires-clause-within
 reduce-right-requires-clause-within g c =
     let num : FitsSigned w128 c.args.other.num = search rules in
     simp to_z-of_z (omega (arith, c.args.other.num_within, g.L.Limit.fits))
 
-cancelled : (g : Over) (c : After-reduce-right g) → IsCancelled c.args.self.num c.args.self.den c.args.other.num c.args.other.den c.reduce-left.result.num c.reduce-left.result.den c.reduce-left.result.common c.reduce-right.result.num c.reduce-right.result.den c.reduce-right.result.common
-cancelled g c =
+pub mul_cancelled-requires-clause-left : goal.mul_cancelled-requires-clause-left
+mul_cancelled-requires-clause-left g c =
     let n : FitsSigned w128 c.args.self.num = search rules in
-    let b : FitsSigned w128 c.args.self.den = search rules in
-    let m : FitsSigned w128 c.args.other.num = search rules in
     let d : FitsSigned w128 c.args.other.den = search rules in
     record {
-      left_lowest = c.args.self.lowest;
-      right_lowest = c.args.other.lowest;
-      n_is = simp to_z-of_z at c.reduce-left.ensures.num;
-      d_is = simp to_z-of_z at c.reduce-left.ensures.den;
-      m_is = simp to_z-of_z at c.reduce-right.ensures.num;
-      b_is = simp to_z-of_z at c.reduce-right.ensures.den;
-      q_some = c.reduce-left.ensures.positive;
-      g_some = c.reduce-left.ensures.common;
-      s_some = c.reduce-right.ensures.positive;
-      h_some = c.reduce-right.ensures.common;
-      first_lowest = c.reduce-left.ensures.lowest;
-      second_lowest = c.reduce-right.ensures.lowest;
+      common = c.reduce-left.ensures.common;
+      num = simp to_z-of_z at c.reduce-left.ensures.num;
+      den = simp to_z-of_z at c.reduce-left.ensures.den;
+      positive = c.reduce-left.ensures.positive;
+      lowest = c.reduce-left.ensures.lowest;
     }
 
--- what is left of the two fractions, multiplied, is their product
-product_is : (g : Over) (c : After-reduce-right g) (both : pos 1 ≤ℤ (c.reduce-right.result.den *ℤ c.reduce-left.result.den)) → rational (c.reduce-left.result.num *ℤ c.reduce-right.result.num) (c.reduce-right.result.den *ℤ c.reduce-left.result.den) both ≡ rational c.args.self.num c.args.self.den c.args.self.positive *ℚ rational c.args.other.num c.args.other.den c.args.other.positive
-product_is g c both =
-    cancelled_value c.args.self.num c.args.self.den c.args.other.num c.args.other.den c.reduce-left.result.num c.reduce-left.result.den c.reduce-left.result.common c.reduce-right.result.num c.reduce-right.result.den c.reduce-right.result.common (cancelled g c) c.args.self.positive c.args.other.positive both
-
-product_lowest : (g : Over) (c : After-reduce-right g) → IsCoprime (unsigned_abs (c.reduce-left.result.num *ℤ c.reduce-right.result.num)) (unsigned_abs (c.reduce-right.result.den *ℤ c.reduce-left.result.den))
-product_lowest g c =
-    cancelled_coprime c.args.self.num c.args.self.den c.args.other.num c.args.other.den c.reduce-left.result.num c.reduce-left.result.den c.reduce-left.result.common c.reduce-right.result.num c.reduce-right.result.den c.reduce-right.result.common (cancelled g c)
-
-product_positive : (g : Over) (c : After-reduce-right g) → pos 1 ≤ℤ (c.reduce-right.result.den *ℤ c.reduce-left.result.den)
-product_positive g c = positive_product c.reduce-right.result.den c.reduce-left.result.den c.reduce-right.ensures.positive c.reduce-left.ensures.positive
-
-product_wide : (g : Over) (c : After-reduce-right g) → (g.L.Limit.LIMIT < unsigned_abs (c.reduce-left.result.num *ℤ c.reduce-right.result.num)) ⊎ (g.L.Limit.LIMIT < unsigned_abs (c.reduce-right.result.den *ℤ c.reduce-left.result.den)) → Exceeds g.L.Limit.LIMIT (rational c.args.self.num c.args.self.den c.args.self.positive *ℚ rational c.args.other.num c.args.other.den c.args.other.positive)
-product_wide g c h =
-    exceeds g.L.Limit.LIMIT (c.reduce-left.result.num *ℤ c.reduce-right.result.num) (c.reduce-right.result.den *ℤ c.reduce-left.result.den) (product_positive g c) _ (product_lowest g c) (sym (product_is g c (product_positive g c))) h
-
-pub returns-in_err-num-clause-wide : goal.returns-in_err-num-clause-wide
-returns-in_err-num-clause-wide g c =
-    let left : FitsSigned w128 c.reduce-left.result.num = search rules in
-    let right : FitsSigned w128 c.reduce-right.result.num = search rules in
-    on_err_of _ (product_wide g (goal.at.returns-in_err-num-clause-wide g c).After-reduce-right (inl (simp to_z-of_z at c.in_err-num.ensures.wide)))
-
-pub returns-in_err-den-clause-wide : goal.returns-in_err-den-clause-wide
-returns-in_err-den-clause-wide g c =
-    let left : FitsSigned w128 c.reduce-left.result.den = search rules in
-    let right : FitsSigned w128 c.reduce-right.result.den = search rules in
-    on_err_of _ (product_wide g (goal.at.returns-in_err-den-clause-wide g c).After-reduce-right (inr (simp to_z-of_z at c.in_err-den.ensures.wide)))
-
-num_is : (g : Over) (c : In_ok-den g) → c.in_ok-num.num ≡ c.reduce-left.result.num *ℤ c.reduce-right.result.num
-num_is g c =
-    let left : FitsSigned w128 c.reduce-left.result.num = search rules in
-    let right : FitsSigned w128 c.reduce-right.result.num = search rules in
-    simp to_z-of_z at c.in_ok-num.ensures.exact
-
-den_is : (g : Over) (c : In_ok-den g) → c.in_ok-den.den ≡ c.reduce-right.result.den *ℤ c.reduce-left.result.den
-den_is g c =
-    let left : FitsSigned w128 c.reduce-left.result.den = search rules in
-    let right : FitsSigned w128 c.reduce-right.result.den = search rules in
-    simp to_z-of_z at c.in_ok-den.ensures.exact
-
-pub from_parts-requires-clause-positive : goal.from_parts-requires-clause-positive
-from_parts-requires-clause-positive g c =
-    let at = goal.at.from_parts-requires-clause-positive g c in
-    let den : FitsSigned w128 c.in_ok-den.den = search rules in
-    simp to_z-of_z (subst (λ z. pos 1 ≤ℤ z) (sym (den_is g at.In_ok-den)) (product_positive g at.After-reduce-right))
-
-pub from_parts-requires-clause-lowest : goal.from_parts-requires-clause-lowest
-from_parts-requires-clause-lowest g c =
-    let at = goal.at.from_parts-requires-clause-lowest g c in
-    let num : FitsSigned w128 c.in_ok-num.num = search rules in
-    let den : FitsSigned w128 c.in_ok-den.den = search rules in
-    subst₂ (λ x y. IsCoprime (unsigned_abs x) (unsigned_abs y))
-    (sym (to_z-of_z num ∙ num_is g at.In_ok-den))
-    (sym (to_z-of_z den ∙ den_is g at.In_ok-den))
-    (product_lowest g at.After-reduce-right)
-
-pub returns-clause-exact : goal.returns-clause-exact
-returns-clause-exact g c =
-    let at = goal.at.returns-clause-exact g c in
-    let x = c.from_parts.result in
-    let num : FitsSigned w128 c.in_ok-num.num = search rules in
-    let den : FitsSigned w128 c.in_ok-den.den = search rules in
-    let both = product_positive g at.After-reduce-right in
-    same_value x.num x.den (c.reduce-left.result.num *ℤ c.reduce-right.result.num) (c.reduce-right.result.den *ℤ c.reduce-left.result.den) x.positive both
-    ((simp to_z-of_z at c.from_parts.ensures.num) ∙ num_is g at.In_ok-den)
-    ((simp to_z-of_z at c.from_parts.ensures.den) ∙ den_is g at.In_ok-den)
-    ∙ product_is g at.After-reduce-right both
-
-pub returns-clause-kept : goal.returns-clause-kept
-returns-clause-kept g c =
-    let at = goal.at.returns-clause-kept g c in
-    let left_num : FitsSigned w128 c.reduce-left.result.num = search rules in
-    let right_num : FitsSigned w128 c.reduce-right.result.num = search rules in
-    let left_den : FitsSigned w128 c.reduce-left.result.den = search rules in
-    let right_den : FitsSigned w128 c.reduce-right.result.den = search rules in
-    let num_within = simp to_z-of_z at c.in_ok-num.ensures.kept in
-    let den_within = simp to_z-of_z at c.in_ok-den.ensures.kept in
-    let both = product_positive g at.After-reduce-right in
-    let num = c.reduce-left.result.num *ℤ c.reduce-right.result.num in
-    let den = c.reduce-right.result.den *ℤ c.reduce-left.result.den in
-    subst (λ v. Exceeds g.L.Limit.LIMIT v → ⊥) (product_is g at.After-reduce-right both)
-    (exceeds_not g.L.Limit.LIMIT (ratio num den) (rational num den both) (in_lowest_terms num den both (product_lowest g at.After-reduce-right)) num_within den_within)
+pub mul_cancelled-requires-clause-right : goal.mul_cancelled-requires-clause-right
+mul_cancelled-requires-clause-right g c =
+    let n : FitsSigned w128 c.args.other.num = search rules in
+    let d : FitsSigned w128 c.args.self.den = search rules in
+    record {
+      common = c.reduce-right.ensures.common;
+      num = simp to_z-of_z at c.reduce-right.ensures.num;
+      den = simp to_z-of_z at c.reduce-right.ensures.den;
+      positive = c.reduce-right.ensures.positive;
+      lowest = c.reduce-right.ensures.lowest;
+    }
