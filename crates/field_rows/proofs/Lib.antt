@@ -1,8 +1,11 @@
 pub mod SumLaws
 pub mod NumberLaws
+pub mod ZeroLaws
+pub mod RowLaws
+pub mod MergeLaws
 pub mod PivotLaws
-pub mod Entrywise
 pub mod UnitLaws
 pub mod FarkasLaws
 pub mod InverseLaws
 pub mod OperationLaws
+pub mod FrontLaws

@@ -87,3 +87,6 @@ pub minus_one-apart : (one x : ℚ) → one ≡ whole (pos 1) → x ≡ neg_ℚ 
 minus_one-apart one x is_one is_minus is_zero =
     let same : negsuc 0 ≡ pos 0 = whole-injective (negsuc 0) (pos 0) (whole-neg (pos 1) ∙ ap neg_ℚ (sym is_one) ∙ sym is_minus ∙ is_zero) in
     cc
+
+pub minus_one_is_apart : whole (negsuc 0) ≡ whole (pos 0) → ⊥
+minus_one_is_apart e = let same : negsuc 0 ≡ pos 0 = whole-injective (negsuc 0) (pos 0) e in omega (arith, ints)

@@ -2,3 +2,5 @@ pub mod Sums
 pub mod Rows
 pub mod Farkas
 pub mod Operations
+pub mod Merging
+pub mod Zeros

@@ -1,7 +1,10 @@
 //! Linear rows over any ordered field.
 #![tactic(auto)]
 
+mod change;
+mod fault;
 mod laws;
+mod merge;
 mod operation;
 mod pivot;
 mod reciprocal;
@@ -9,8 +12,10 @@ mod row;
 #[cfg(test)]
 mod unit;
 
-pub use laws::contradictions_have_no_solution;
+pub use change::put;
+pub use fault::{RowFault, WideEntry};
+pub use laws::{contradictions_have_no_solution, zero_fits};
 pub use operation::{Operation, product, product_sum};
-pub use pivot::{WideEntry, solve, substitute};
+pub use pivot::{solve, substitute};
 pub use reciprocal::inverse;
-pub use row::row_value;
+pub use row::{Entry, coefficient};

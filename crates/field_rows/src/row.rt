@@ -1,25 +1,46 @@
-//! What is the value of a row, and how is it solved for one of its variables?
+//! A row lists the coefficients that aren't zero, by their variables, and a look-up halves the list.
 
-ghost use Rattle.std.specs.Prelude.{◌≡◌, length, IfOk, OnOk, OnErr};
-ghost use Rattle.field_rows.specs.Rows.{number_at, row_value, SomeStepIsWide};
+ghost use Rattle.std.specs.Prelude.{◌≡◌, ◌∷◌, ◌++◌, [], MatchOption};
+ghost use Rattle.field_rows.specs.Rows.{coefficient, IsRow};
 
-use ordered_field::{OrderedField, Wide, zero};
+use ordered_field::{OrderedField, zero};
 
-/// The sum of the products of a row's coefficients and a vector's numbers, formed in order.
-///
-/// `Wide` exactly where one of the steps, a product or then a sum, is.
-pub fn row_value<F: OrderedField>(row: &[F], vector: &[F]) -> Result<F, Wide>
-    requires { length row.now ≡ length vector.now }
-    ensures exact { IfOk result (λ total. F.value total
-        ≡ row_value (length row.now) (number_at F.value row.now) (number_at F.value vector.now)) }
-    ensures kept { OnOk result (¬ SomeStepIsWide F.LIMIT (length row.now)
-        (number_at F.value row.now) (number_at F.value vector.now)) }
-    ensures wide { OnErr result (SomeStepIsWide F.LIMIT (length row.now)
-        (number_at F.value row.now) (number_at F.value vector.now)) }
+/// One term of a row: the coefficient of a variable. In a row the variables rise and no number is zero.
+#[derive(Clone, Copy, PartialEq, Eq, Debug)]
+pub struct Entry<F> {
+    pub variable: u32,
+    pub number: F,
+}
+
+/// The coefficient of a variable in a row, which is zero where no entry names the variable.
+pub fn coefficient<F: OrderedField>(row: &[Entry<F>], variable: u32) -> F
+    requires { IsRow F.value row.now }
+    ensures { F.value result ≡ coefficient F.value row.now variable }
 {
-    let mut total: F = zero();
-    for (i, k) in row.iter().enumerate() {
-        total = total.fma(*k, vector[i])?;
+    let mut rest = row;
+    while let Some((before, entry, behind)) = parted(rest) {
+        if variable == entry.variable {
+            return entry.number;
+        }
+        if variable < entry.variable {
+            rest = before;
+        } else {
+            rest = behind;
+        }
     }
-    Ok(total)
+    zero()
+}
+
+// The entry in the middle, with those before it and behind it.
+fn parted<F: OrderedField>(row: &[Entry<F>]) -> Option<(&[Entry<F>], Entry<F>, &[Entry<F>])>
+    ensures { MatchOption result (row.now ≡ []) (λ parts. row.now ≡ parts.0.now ++ parts.1 ∷ parts.2.now) }
+{
+    let (before, from) = row.split_at(row.len() / 2);
+    match from.split_first() {
+        Some((entry, behind)) => {
+            let entry = *entry;
+            Some((before, entry, behind))
+        }
+        None => None,
+    }
 }

@@ -1,13 +1,16 @@
 //! The smallest ordered field, of -1, 0 and 1: the trait's contracts can be met, and generic calls answer.
 
-ghost use Rattle.std.specs.Prelude.{◌≡◌, ℕ, ◌≤◌, unsigned_abs, ◌+ℤ◌, ◌*ℤ◌, neg_ℤ};
+ghost use Rattle.std.specs.Prelude.{◌≡◌, ℕ, IfOk, pos, negsuc, ◌≤◌, unsigned_abs, ◌+ℤ◌, ◌*ℤ◌, neg_ℤ};
 ghost use Rattle.std.proofs.Common.{lit<, lit≤};
 ghost use Rattle.ordered_field.specs.Rational.{whole};
+ghost use Rattle.field_rows.specs.Rows.{coefficient, IsRow};
 ghost use Rattle.ordered_field.proofs.WholeNumbers.{over_one, whole-lowest, whole-equal, whole-below};
 
-use crate::{Operation, WideEntry, inverse, product, product_sum, row_value, solve, substitute};
+use crate::{Entry, Operation, coefficient, inverse, product, product_sum, put, solve, substitute};
 use ordered_field::{Delta, OrderedField, Wide, compare, one, zero};
+use std::alloc::{AllocError, Global};
 use std::cmp::Ordering;
+use std::test::Fail;
 
 #[derive(Clone, Copy, PartialEq, Eq, PartialOrd, Ord, Debug)]
 struct Unit {
@@ -122,27 +125,56 @@ fn numbers_with_an_infinitesimal(rt: HostRuntime) {
 }
 
 #[test]
-fn rows(rt: HostRuntime) {
-    let (zero, one) = (zero::<Unit>(), one::<Unit>());
+fn operations(rt: HostRuntime) {
+    let one = one::<Unit>();
     let minus = one.neg();
-    assert_eq!(rt; row_value(&[one, minus], &[one, one]), Ok(zero));
-    assert_eq!(rt; row_value(&[one, one], &[one, one]), Err(Wide));
-    // y = x0 - x1 is x1 = x0 - y.
-    let mut solved = [one, minus];
-    assert_eq!(rt; solve(&mut solved, 1), Ok(()));
-    assert_eq!(rt; solved, [one, minus]);
-    // With it z = x1 is z = x0 - y.
-    let mut row = [zero, one];
-    assert_eq!(rt; substitute(&mut row, 1, &solved), Ok(()));
-    assert_eq!(rt; row, [one, minus]);
-    // z = x0 + x1 with x1 = x0 + y is z = 2 x0 + y.
-    let sum = Operation::Sum(one, one);
-    let refused = WideEntry {
-        column: 0,
-        operation: sum,
-    };
-    assert_eq!(rt; substitute(&mut [one, one], 1, &[one, one]), Err(refused));
-    assert_eq!(rt; product_sum(one, one, one), Err(sum));
+    assert_eq!(rt; product_sum(one, one, one), Err(Operation::Sum(one, one)));
     assert_eq!(rt; product(one, minus), Ok(minus));
     assert_eq!(rt; inverse(minus), minus);
+}
+
+/// The row of one variable alone.
+fn alone(alloc: Global, variable: u32) -> Result<Vec<Entry<Unit>>, AllocError>
+    ensures row { IfOk result (λ row. IsRow ⟦<Unit as OrderedField>⟧.value row.items) }
+{
+    let mut row = Vec::new(alloc);
+    put(alloc, &[], variable, one::<Unit>(), &mut row)?;
+    Ok(row)
+}
+
+/// The row `x0 - x1`.
+fn difference(alloc: Global) -> Result<Vec<Entry<Unit>>, AllocError>
+    ensures row { IfOk result (λ row. IsRow ⟦<Unit as OrderedField>⟧.value row.items) }
+    ensures second { IfOk result (λ row. coefficient ⟦<Unit as OrderedField>⟧.value row.items 1 ≡ whole (negsuc 0)) }
+    ensures third { IfOk result (λ row. coefficient ⟦<Unit as OrderedField>⟧.value row.items 2 ≡ whole (pos 0)) }
+{
+    let one = one::<Unit>();
+    let mut second = Vec::new(alloc);
+    put(alloc, &[], 1, one.neg(), &mut second)?;
+    let mut both = Vec::new(alloc);
+    put(alloc, second.as_slice(), 0, one, &mut both)?;
+    Ok(both)
+}
+
+#[test]
+fn rows(rt: HostRuntime) -> Result<(), Fail> {
+    let alloc = rt.alloc();
+    let one = one::<Unit>();
+    let row = difference(alloc)?;
+    assert_eq!(rt; coefficient(row.as_slice(), 1), one.neg());
+    // x2 = x0 - x1 is x1 = x0 - x2.
+    let mut solved = Vec::new(alloc);
+    match solve(alloc, 2, row.as_slice(), 1, &mut solved) {
+        Ok(()) => {}
+        Err(_) => return Err(Fail::from("the row wasn't solved")),
+    }
+    assert_eq!(rt; solved.len(), 2);
+    assert_eq!(rt; (solved[0].variable, solved[0].number), (0, one));
+    assert_eq!(rt; (solved[1].variable, solved[1].number), (2, one.neg()));
+    // With it the row x1 is x0 - x2.
+    let other = alone(alloc, 1)?;
+    let mut followed = Vec::new(alloc);
+    assert!(rt; substitute(other.as_slice(), 1, solved.as_slice(), &mut followed).is_ok());
+    assert_eq!(rt; followed.as_slice(), solved.as_slice());
+    Ok(())
 }

@@ -1,58 +1,64 @@
-use Rattle.std.proofs.Common.{arith, sym, ap, ◌∙◌}
-use Rattle.std.proofs.lemmas.List.{length-set}
-use Rattle.ordered_field.specs.Rational.{neg_ℚ, ◌*ℚ◌}
-use Rattle.field_rows.specs.Rows.{number_at, put}
-use Rattle.field_rows.proofs.NumberLaws.{number_at-read, number_at-set}
-use Rattle.field_rows.proofs.Entrywise.{Entrywise-none, Entrywise-more}
-use Rattle.field_rows.proofs.PivotLaws.{IsQuotientAt-by, opposite_is_dividend, IsSolved-by_quotients}
-use Rattle.field_rows.proofs.OperationLaws.{IsWideQuotientAt-by}
+use Rattle.std.proofs.Common.{◌+◌, pos, refl, sym, ap, subst, ◌∙◌}
+use Rattle.ordered_field.specs.Rational.{whole, ◌*ℚ◌, neg_ℚ}
+use Rattle.field_rows.specs.Rows.{coefficient}
+use Rattle.field_rows.proofs.PivotLaws.{quotients_solve}
+use Rattle.field_rows.proofs.MergeLaws.{Merging-init, Merging-more, Merging-end, Merged, rests_shorter}
+use Rattle.field_rows.proofs.OperationLaws.{IsQuotientAt, IsQuotientAt-by, IsQuotientAt-quiet, IsWideQuotient-by}
+use Rattle.field_rows.proofs.FrontLaws.{IsRowOfOne, row_of_one, front_dividend}
 use Rattle.field_rows.proofs.pivot.solve.Goals as goal
 
 pub inverse-factor-requires : goal.inverse-factor-requires
-inverse-factor-requires g c =
-    let value = g.F.OrderedField.value in
-    λ none. c.requires.solvable (number_at-read value c.args.row.now c.args.column _ c.requires.in_row c.index-row-column.is ∙ none)
+inverse-factor-requires g c = λ none. c.requires.solvable (sym c.coefficient.ensures ∙ none)
 
-pub loop-k-init : goal.loop-k-init
-loop-k-init g c =
+pub loop-at-init : goal.loop-at-init
+loop-at-init g c =
     let value = g.F.OrderedField.value in
-    let j = c.args.column in
-    let row = number_at value c.args.row.now in
+    let place : IsRowOfOne value c.args.basic (neg_ℚ (whole (pos 1))) c.as_slice-right.result.now =
+    subst (IsRowOfOne value c.args.basic (neg_ℚ (whole (pos 1)))) (sym c.as_slice-right.ensures.value) (row_of_one value c.args.basic c.neg.result _ _ _ c.ranges.basic.fits c.new-place.ensures.items (c.neg.ensures ∙ ap neg_ℚ c.one.ensures) c.in_ok-append.ensures) in
     record {
-      inverts = ap (λ v. value c.inverse-factor.result *ℚ v) (number_at-read value c.args.row.now j _ c.requires.in_row c.index-row-column.is)
-          ∙ c.inverse-factor.ensures;
-      entries = Entrywise-none _ _ _ (λ k. number_at-set value c.args.row.now j k _ c.requires.in_row
-          ∙ ap (λ v. put j v row k) (c.neg.ensures ∙ ap neg_ℚ c.one.ensures));
+      inverts = ap (λ v. value c.inverse-factor.result *ℚ v) (sym c.coefficient.ensures) ∙ c.inverse-factor.ensures;
+      walk = (0, Merging-init value _ _ _ _ _ _ c.clear.ensures.items c.requires.row place.is_row (λ v. refl) place.same);
     }
 
 pub returns-in-Err-clause-wide : goal.returns-in-Err-clause-wide
 returns-in-Err-clause-wide g c =
     let value = g.F.OrderedField.value in
-    let j = c.args.column in
-    let k = c.loop-k.k in
-    let row = number_at value c.args.row.now in
-    let entry = number_at-read value c.loop-k.row k _ (omega (arith, c.loop-k.auto.row, length-set {A = g.row.F.Denot})) c.index-row-k.is in
-    let divided = c.neg-in-loop-k.ensures ∙ ap neg_ℚ (sym entry ∙ c.loop-k.invariant.entries.rest k (omega arith)) ∙ opposite_is_dividend j k row in (
-      omega (arith, c.loop-k.auto.row, length-set {A = g.row.F.Denot}),
-      IsWideQuotientAt-by _ value j row k _ _ _ divided c.loop-k.invariant.inverts c.in-Err.ensures.wide,
-    )
+    let row = coefficient value c.args.row.now in
+    let divided = front_dividend value _ c.args.basic c.args.variable row _ _ _ _ c.in-Some.at c.split-number.result.0 c.split-minus.result.0 c.other_than.result c.loop-at.invariant.walk.1 (sym c.in-Some.ensures) c.split-number.ensures.number c.split-minus.ensures.number c.other_than.ensures in
+    IsWideQuotient-by _ value c.args.basic c.args.variable row c.in-Some.at _ _ _ divided c.loop-at.invariant.inverts c.in-Err.ensures.wide
 
-pub loop-k-preserved : goal.loop-k-preserved
-loop-k-preserved g c =
+pub loop-at-smaller : goal.loop-at-smaller
+loop-at-smaller g c =
+    rests_shorter c.in-Some.at _ _ _ _ (sym c.in-Some.ensures) c.split-number.ensures.rest c.split-minus.ensures.rest
+
+pub loop-at-preserved : goal.loop-at-preserved
+loop-at-preserved g c =
     let value = g.F.OrderedField.value in
-    let j = c.args.column in
-    let k = c.loop-k.k in
-    let row = number_at value c.args.row.now in
-    let entry = number_at-read value c.loop-k.row k _ (omega (arith, c.loop-k.auto.row, length-set {A = g.row.F.Denot})) c.index-row-k.is in
-    let divided = c.neg-in-loop-k.ensures ∙ ap neg_ℚ (sym entry ∙ c.loop-k.invariant.entries.rest k (omega arith)) ∙ opposite_is_dividend j k row in
+    let row = coefficient value c.args.row.now in
+    let b = c.args.basic in
+    let o = c.args.variable in
+    let limit = g.F.OrderedField.LIMIT in
+    let inverts = c.loop-at.invariant.inverts in
+    let divided = front_dividend value _ b o row _ _ _ _ c.in-Some.at c.split-number.result.0 c.split-minus.result.0 c.other_than.result c.loop-at.invariant.walk.1 (sym c.in-Some.ensures) c.split-number.ensures.number c.split-minus.ensures.number c.other_than.ensures in
+    let now = IsQuotientAt-by limit b o row c.in-Some.at (value c.in-Ok.entry) _ (value c.inverse-factor.result) divided inverts c.in-Ok.ensures.exact c.in-Ok.ensures.kept in
     record {
-      inverts = c.loop-k.invariant.inverts;
-      entries = Entrywise-more k _ _ _ _ (value c.in-Ok.entry) c.loop-k.invariant.entries
-          (λ m. number_at-set value c.loop-k.row k m _ (omega (arith, c.loop-k.auto.row, length-set {A = g.row.F.Denot})))
-          (IsQuotientAt-by _ j row k _ _ _ divided c.loop-k.invariant.inverts c.in-Ok.ensures.exact c.in-Ok.ensures.kept);
+      inverts = inverts;
+      walk = (c.in-Some.at + 1, Merging-more value _ _ _ _ _ _ _ c.in-Some.at c.in-Ok.entry _ _ _ c.loop-at.invariant.walk.1 (sym c.in-Some.ensures) (λ u none no_minus. IsQuotientAt-quiet limit b o row u (value c.inverse-factor.result) g.met.F.OrderedField.limits.0 inverts none no_minus) now c.in_ok-append-in-Ok.ensures c.split-number.ensures.rest c.split-minus.ensures.rest);
     }
 
+merged : (g : _) (c : goal.After-drop-place-2 g) → Merged g.F.OrderedField.value (IsQuotientAt g.F.OrderedField.LIMIT c.args.basic c.args.variable (coefficient g.F.OrderedField.value c.args.row.now)) c.loop-at.solved.items
+merged g c =
+    Merging-end g.F.OrderedField.value _ _ _ _ _ _ _ c.loop-at.invariant.walk.1 (sym c.next.ensures ∙ c.in_default.is) (λ u none no_minus. IsQuotientAt-quiet g.F.OrderedField.LIMIT c.args.basic c.args.variable (coefficient g.F.OrderedField.value c.args.row.now) u (g.F.OrderedField.value c.inverse-factor.result) g.met.F.OrderedField.limits.0 c.loop-at.invariant.inverts none no_minus)
+
+pub returns-clause-row : goal.returns-clause-row
+returns-clause-row g c = (merged g c).is_row
+
+pub returns-clause-quotients : goal.returns-clause-quotients
+returns-clause-quotients g c = λ k. ((merged g c).done k).0
+
 pub returns-clause-solved : goal.returns-clause-solved
-returns-clause-solved g c =
-    IsSolved-by_quotients _ c.args.column _ _ c.requires.in_row c.requires.solvable
-    (λ k below. (c.loop-k.invariant.entries.done k (omega (arith, c.loop-k.auto.row, length-set {A = g.row.F.Denot}))).0)
+returns-clause-solved g c = λ n basic_in variable_in.
+    quotients_solve n c.args.basic c.args.variable _ _ basic_in variable_in c.requires.outside c.requires.solvable (λ k. ((merged g c).done k).0)
+
+pub returns-clause-kept : goal.returns-clause-kept
+returns-clause-kept g c = λ wide. ((merged g c).done wide.0).1 wide.1

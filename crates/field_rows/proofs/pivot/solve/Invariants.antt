@@ -1,16 +1,18 @@
-use Rattle.std.proofs.Common.{◌≡◌, pos}
-use Rattle.ordered_field.specs.Rational.{whole, ◌*ℚ◌, neg_ℚ}
-use Rattle.field_rows.specs.Rows.{number_at, put}
-use Rattle.field_rows.proofs.Entrywise.{Entrywise}
-use Rattle.field_rows.proofs.PivotLaws.{IsQuotientAt}
+use Rattle.std.proofs.Common.{◌≡◌, ℕ, ◌+◌, length, pos}
+use Rattle.ordered_field.specs.Rational.{whole, ◌*ℚ◌}
+use Rattle.field_rows.specs.Rows.{coefficient}
+use Rattle.field_rows.proofs.MergeLaws.{Merging}
+use Rattle.field_rows.proofs.OperationLaws.{IsQuotientAt, minus_at}
 use Rattle.field_rows.proofs.pivot.solve.Given as goal
 
-abbrev pub invariant-loop-k : goal.invariant-loop-k
-invariant-loop-k g l =
+abbrev pub invariant-loop-at : goal.invariant-loop-at
+invariant-loop-at g l =
     let value = g.F.OrderedField.value in
-    let c = number_at value l.fn.row in
-    let j = l.column in
+    let c = coefficient value l.row in
     record {
-      inverts : value l.factor *ℚ c j ≡ whole (pos 1);
-      entries : Entrywise l.k (IsQuotientAt g.F.OrderedField.LIMIT j c) (put j (neg_ℚ (whole (pos 1))) c) (number_at value l.row);
+      inverts : value l.factor *ℚ c l.variable ≡ whole (pos 1);
+      walk : (from : ℕ) × Merging value (IsQuotientAt g.F.OrderedField.LIMIT l.basic l.variable c) c (minus_at l.basic) from l.solved.items l.left l.right;
     }
+
+abbrev pub decreases-loop-at : goal.decreases-loop-at
+decreases-loop-at g l = length l.left + length l.right

@@ -1,17 +1,18 @@
-use Rattle.std.proofs.Common.{◌≡◌, pos}
-use Rattle.ordered_field.specs.Rational.{whole}
-use Rattle.field_rows.specs.Rows.{number_at, put}
-use Rattle.field_rows.proofs.Entrywise.{Entrywise}
-use Rattle.field_rows.proofs.PivotLaws.{IsEntryAt}
+use Rattle.std.proofs.Common.{◌≡◌, ℕ, ◌+◌, length}
+use Rattle.field_rows.specs.Rows.{coefficient}
+use Rattle.field_rows.proofs.MergeLaws.{Merging}
+use Rattle.field_rows.proofs.OperationLaws.{IsEntryAt}
 use Rattle.field_rows.proofs.pivot.substitute.Given as goal
 
-abbrev pub invariant-loop-k : goal.invariant-loop-k
-invariant-loop-k g l =
+abbrev pub invariant-loop-at : goal.invariant-loop-at
+invariant-loop-at g l =
     let value = g.F.OrderedField.value in
-    let c = number_at value l.fn.row in
-    let d = number_at value l.solved in
-    let j = l.column in
+    let c = coefficient value l.row in
+    let d = coefficient value l.solved in
     record {
-      factor : value l.factor ≡ c j;
-      entries : Entrywise l.k (IsEntryAt g.F.OrderedField.LIMIT j d c) (put j (whole (pos 0)) c) (number_at value l.row);
+      factor : value l.factor ≡ c l.variable;
+      walk : (from : ℕ) × Merging value (IsEntryAt g.F.OrderedField.LIMIT l.variable d c) c d from l.followed.items l.left l.right;
     }
+
+abbrev pub decreases-loop-at : goal.decreases-loop-at
+decreases-loop-at g l = length l.left + length l.right
