@@ -1,0 +1,11 @@
+pub mod DemandLaws
+pub mod FormulaLaws
+pub mod Growth
+pub mod LiteralLaws
+pub mod ModelLaws
+pub mod Numbering
+pub mod SameKeys
+pub mod SimplifyLaws
+pub mod SmallNumbers
+pub mod Steps
+pub mod Truths

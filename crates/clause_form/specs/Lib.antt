@@ -1,0 +1,10 @@
+pub mod Answers
+pub mod Building
+pub mod Derivations
+pub mod Formulas
+pub mod Journals
+pub mod Keys
+pub mod Models
+pub mod Simplified
+pub mod Theories
+pub mod WellFormed
