@@ -7,7 +7,7 @@ use Rattle.path_server.specs.declared.admission.Admit.{Admit}
 use Rattle.path_server.specs.declared.admission.Admit.TheVariants.{Yes, Broken, Wide}
 use Rattle.path_server.specs.declared.settings.Setting.{Setting}
 use Rattle.path_server.proofs.AdmissionLaws.{admitted_law, broken_law, wide_law}
-use Rattle.trace_replay.specs.Spelling.{IsTraceText}
+use Rattle.trace_text.specs.Spelling.{IsTraceText}
 use Rattle.ccac_ports.specs.Ports.{Appends}
 use Rattle.ccac_cli.specs.Admitting.{AdmitAnswers, TraceAnswers, examined, question_read, question_refused, trace_refused}
 use Rattle.ccac_cli.specs.Commands.{admit}

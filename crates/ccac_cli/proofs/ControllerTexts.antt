@@ -1,5 +1,5 @@
 -- Bytes are a controller's text or have one first broken rule, in what is read and in what is resolved alike.
-use Rattle.std.proofs.Common.{◌≡◌, ℕ, Ok, Err, List, refl, subst}
+use Rattle.std.proofs.Common.{◌≡◌, ℕ, ◌⊎◌, ⊎_elim, inl, inr, Ok, Err, List, refl, subst}
 use Rattle.text_lines.specs.Steps.{Fails}
 use Rattle.whole.specs.declared.answers.ReadFault.{ReadFault}
 use Rattle.whole.specs.declared.answers.ReadFault.TheVariants.{NoMemory, Refused}
@@ -10,10 +10,12 @@ use Rattle.ctrl_syntax.specs.Sections.{Sections, sections_of}
 use Rattle.ctrl_syntax.specs.declared.syntax.Syntax.{Syntax}
 use Rattle.ctrl_syntax.proofs.Exactness as exactness
 use Rattle.ctrl_types.specs.Resolved.{RefusesUnless}
+use Rattle.ctrl_types.specs.Resolving.{SeenController}
 use Rattle.ctrl_types.specs.Statements.{IsFirstBroken, IsUnbroken}
 use Rattle.ctrl_types.specs.declared.controllers.Controller.{Controller}
 use Rattle.ctrl_types.proofs.FirstLaws.{first_broken_is_one, never_both}
-use Rattle.ccac_cli.specs.Texts.{IsControllerRefused, IsControllerText, unread, unresolved}
+use Rattle.ctrl_types.proofs.ResolveLaws.{either_statements, some_controller}
+use Rattle.ccac_cli.specs.Texts.{IsControllerRefused, IsControllerText, MeansController, unread, unresolved}
 
 -- ---- what the bytes spell
 
@@ -61,3 +63,13 @@ one_refusal bytes r s (unresolved t is broken) two = first_broken_is_one t r s b
 
 pub not_both : (bytes : List ℕ) (syntax : Syntax) (c : Controller) (r : Refusal) → IsControllerText bytes syntax c → IsControllerRefused bytes r → ⊥
 not_both bytes syntax c r text refused = never_both (sections_of syntax) r (broken_here bytes (sections_of syntax) text.spelled r refused) text.unbroken
+
+-- bytes are a controller's text, or they are refused
+pub either_controller : (bytes : List ℕ) → ((c : SeenController) × MeansController bytes c) ⊎ ((r : Refusal) × IsControllerRefused bytes r)
+either_controller bytes = ⊎_elim (λ p. spelled p.0 p.1) (λ p. inr (p.0, unread p.1)) (exactness.either_text bytes)
+  where
+    spelled : (s : Sections) → IsText bytes s → ((c : SeenController) × MeansController bytes c) ⊎ ((r : Refusal) × IsControllerRefused bytes r)
+    spelled s text = ⊎_elim whole (λ p. inr (p.0, unresolved s text p.1)) (either_statements s)
+      where
+        whole : IsUnbroken s → ((c : SeenController) × MeansController bytes c) ⊎ ((r : Refusal) × IsControllerRefused bytes r)
+        whole unbroken = let c = some_controller bytes s text unbroken in inl (c.0, record { sections = s; spelled = text; unbroken = unbroken; resolved = c.1 })

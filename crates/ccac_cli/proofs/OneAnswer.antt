@@ -7,7 +7,7 @@ use Rattle.ctrl_syntax.specs.Printed.{printed}
 use Rattle.ctrl_syntax.specs.Sections.{Sections, sections_of}
 use Rattle.ctrl_syntax.proofs.Exactness as controllers
 use Rattle.question_syntax.proofs.Exactness as questions
-use Rattle.trace_replay.proofs.Exactness as traces
+use Rattle.trace_text.proofs.Exactness as traces
 use Rattle.ccac_cli.specs.Admitting.{AdmitAnswers, TraceAnswers, trace_refused, examined, question_refused, question_read}
 use Rattle.ccac_cli.specs.Commands.{Order, admit, format, format_question, replay}
 use Rattle.ccac_cli.specs.Ended.{BytesAnswer, one_file, two_files, three_files}

@@ -18,7 +18,7 @@ use Rattle.question_text.specs.declared.questions.Question.{Question}
 use Rattle.question_text.proofs.SeenLaws.{refused_same, states_same, text_same}
 use Rattle.question_text.proofs.TellingLaws as questions
 use Rattle.trace_replay.specs.Replaying.{replaying}
-use Rattle.trace_replay.proofs.Exactness as traces
+use Rattle.trace_text.proofs.Exactness as traces
 use Rattle.trace_replay.proofs.SeenLaws.{replaying_same}
 use Rattle.ccac_cli.specs.Formats as formats
 use Rattle.ccac_cli.specs.Formats.{AskedFormat, QuestionFormat, formatted}

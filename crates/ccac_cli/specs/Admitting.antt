@@ -5,8 +5,8 @@ use Rattle.run_rows.specs.declared.shapes.Shape.{Shape}
 use Rattle.run_rows.specs.declared.rows.Run.{Run}
 use Rattle.path_server.specs.Places.{admission}
 use Rattle.path_server.specs.declared.settings.Setting.{Setting}
-use Rattle.trace_replay.specs.Refused.{IsRefused}
-use Rattle.trace_replay.specs.Spelling.{IsTraceText}
+use Rattle.trace_text.specs.Script.{IsRefused}
+use Rattle.trace_text.specs.Spelling.{IsTraceText}
 use Rattle.question_syntax.specs.Refused as question
 use Rattle.ccac_cli.specs.Reports.{Answer, refused, verdict}
 use Rattle.ccac_cli.specs.Texts.{IsSettingText}

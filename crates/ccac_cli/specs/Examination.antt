@@ -7,7 +7,7 @@ use Rattle.path_server.specs.Places.{IsFirstBroken, IsFirstWide}
 use Rattle.path_server.specs.Rules.{Admitted}
 use Rattle.path_server.specs.declared.admission.Admit.TheVariants.{Broken, Wide}
 use Rattle.path_server.specs.declared.settings.Setting.{Setting}
-use Rattle.trace_replay.specs.Spelling.{IsTraceText}
+use Rattle.trace_text.specs.Spelling.{IsTraceText}
 use Rattle.ccac_ports.specs.Ports.{Appends}
 use Rattle.ccac_cli.specs.Commands.{Order, admit}
 use Rattle.ccac_cli.specs.Ended.{Got}

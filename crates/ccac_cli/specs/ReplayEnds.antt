@@ -7,7 +7,7 @@ use Rattle.ctrl_types.specs.declared.controllers.Controller.{Controller}
 use Rattle.question_text.specs.Meaning.{Violates}
 use Rattle.question_text.specs.declared.questions.Question.{Question}
 use Rattle.trace_replay.specs.RunOf.{IsFirstBroken, IsFirstWide, RunOf}
-use Rattle.trace_replay.specs.Spelling.{IsTraceText}
+use Rattle.trace_text.specs.Spelling.{IsTraceText}
 use Rattle.trace_replay.specs.declared.replaying.RunRule.{RunRule}
 use Rattle.ccac_ports.specs.Ports.{Appends}
 use Rattle.ctrl_syntax.specs.declared.syntax.Syntax.{Syntax}

@@ -10,9 +10,9 @@ use Rattle.question_text.specs.Limits.{IsQuestion}
 use Rattle.question_text.specs.Resolving.{question_seen}
 use Rattle.question_text.specs.Texts as texts
 use Rattle.question_text.specs.declared.questions.Question.{Question}
-use Rattle.trace_replay.specs.Refused.{IsRefused}
+use Rattle.trace_text.specs.Script.{IsRefused}
 use Rattle.trace_replay.specs.Replaying.{replaying}
-use Rattle.trace_replay.specs.Spelling.{IsTraceText}
+use Rattle.trace_text.specs.Spelling.{IsTraceText}
 use Rattle.ccac_cli.specs.Reports.{Answer, refused, replay_verdict}
 use Rattle.ccac_cli.specs.Texts.{IsControllerRefused, IsControllerText}
 use Rattle.ccac_cli.specs.declared.reports.Source.TheVariants.{Controller as ControllerFile, Question as QuestionFile, Trace}

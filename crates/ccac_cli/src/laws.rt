@@ -1,18 +1,19 @@
 // What holds of canonical texts and of controllers' texts, as contracts of functions that do nothing.
-ghost use Rattle.std.specs.Prelude.{◌≡◌, ℕ, List};
+ghost use Rattle.std.specs.Prelude.{◌≡◌, ◌⊎◌, ℕ, List};
 ghost use Rattle.whole.specs.declared.answers.Refusal.{Refusal};
 ghost use Rattle.ctrl_syntax.specs.Grammar.{IsText};
 ghost use Rattle.ctrl_syntax.specs.Printed.{printed};
 ghost use Rattle.ctrl_syntax.specs.Sections.{Sections};
 ghost use Rattle.ctrl_syntax.specs.declared.syntax.Syntax.{Syntax};
 ghost use Rattle.ctrl_types.specs.declared.controllers.Controller.{Controller};
+ghost use Rattle.ctrl_types.specs.Resolving.{SeenController};
 ghost use Rattle.ccac_cli.specs.Admitting.{AdmitAnswers};
 ghost use Rattle.ccac_cli.specs.Commands.{Order};
 ghost use Rattle.ccac_cli.specs.Ended.{BytesAnswer};
 ghost use Rattle.ccac_cli.specs.Formats.{FormatAnswers, QuestionFormat};
 ghost use Rattle.ccac_cli.specs.Replays.{ReplayAnswers};
 ghost use Rattle.ccac_cli.specs.Reports.{Answer};
-ghost use Rattle.ccac_cli.specs.Texts.{IsControllerRefused, IsControllerText};
+ghost use Rattle.ccac_cli.specs.Texts.{IsControllerRefused, IsControllerText, MeansController};
 
 /// The canonical text of a controller stays as it is: whatever it spells has that canonical text. (Of a question this is
 /// said by `question_text::print`, whose text is read as the same question.)
@@ -20,10 +21,11 @@ pub fn canonical_texts_stay()
     ensures controllers { (bytes : List ℕ) (s t : Sections) → IsText bytes s → IsText (printed s) t → printed t ≡ printed s }
 {}
 
-/// Bytes are a controller's text, or they have one first broken rule alone.
+/// Bytes are a controller's text, or they have one first broken rule alone; and one of the two is so.
 pub fn controller_texts_are_told_apart()
     ensures one_refusal { (bytes : List ℕ) (r s : Refusal) → IsControllerRefused bytes r → IsControllerRefused bytes s → r ≡ s }
     ensures not_both { (bytes : List ℕ) (syntax : Syntax) (c : Controller) (r : Refusal) → IsControllerText bytes syntax c → IsControllerRefused bytes r → ⊥ }
+    ensures either { (bytes : List ℕ) → ((c : SeenController) × MeansController bytes c) ⊎ ((r : Refusal) × IsControllerRefused bytes r) }
 {}
 
 /// The bytes of an order's files have one answer: those of a question and a trace that are to be admitted, of a controller, a

@@ -11,7 +11,7 @@ use Rattle.weighing.specs.declared.weighings.Rel5.{Rel5}
 use Rattle.weighing.specs.declared.weighings.Rel5.TheVariants.{AtMost, Below, AtLeast, Above, Equal}
 use Rattle.condition_syntax.specs.declared.conditions.Style.{Style}
 use Rattle.condition_syntax.specs.Trees.{Condition, opposite, conjunction, disjunction, conjoined, disjoined}
-use Rattle.condition_syntax.specs.Conditions.{rel_of}
+use Rattle.condition_syntax.specs.Words.{rel_of}
 use Rattle.condition_syntax.specs.Grammar.{Joined, one, more, SpellsSimple, truth, falsity, test, compared, SpellsOpened, simple, negated, bracketed, Nothing, SpellsConjunction, SpellsJoined, SpellsPart, SpellsCond}
 use Rattle.condition_syntax.specs.Printing.{number_text, expr_text, rel_text, is_conjunction, is_disjunction, bracketed_if, condition_text}
 use Rattle.condition_syntax.specs.Printed.{Shows, Prints, EndsToken}

@@ -1,11 +1,11 @@
 -- What spells a condition is read, whatever follows that can't go on with it.
-use Rattle.std.proofs.Common.{◌≡◌, ℕ, zero, suc, ◌+◌, ◌≤◌, ◌<◌, Bool, true, false, Option, Some, Ok, List, [], ◌∷◌, ◌++◌, length, length-append, refl, sym, ap, ◌∙◌, append_assoc, arith}
+use Rattle.std.proofs.Common.{◌≡◌, ℕ, zero, suc, ◌+◌, ◌≤◌, ◌<◌, Bool, true, false, Option, Some, Ok, List, [], ◌∷◌, ◌++◌, length, length-append, refl, sym, ap, subst, ◌∙◌, append_assoc, arith}
 use Rattle.std.specs.Prelude.{codes, ◌||◌, ◌&&◌}
 use Rattle.std.specs.Str.{bytes_eq}
 use Rattle.std.proofs.lemmas.Bool.{or_parts, le-leb, lt-leb}
 use Rattle.source_text.specs.declared.lexemes.Sign.{Sign}
 use Rattle.source_text.specs.declared.lexemes.Sign.TheVariants.{AtMost, Below, AtLeast, Above, Equal, Assign, Plus, Minus, Times, Open, Close, Dot, At}
-use Rattle.source_text.specs.Tokens.{Token, word, number, sign}
+use Rattle.source_text.specs.Tokens.{Token, word, number, sign, wrong}
 use Rattle.weighing.specs.declared.scales.Num.{Num}
 use Rattle.weighing.specs.declared.weighings.Rel5.{Rel5}
 use Rattle.condition_syntax.specs.declared.conditions.Style.{Style}
@@ -13,11 +13,13 @@ use Rattle.condition_syntax.specs.declared.conditions.Style.TheVariants.{Control
 use Rattle.condition_syntax.specs.declared.expressions.ETerm.{ETerm}
 use Rattle.condition_syntax.specs.declared.openings.Opening.{Opening}
 use Rattle.condition_syntax.specs.declared.openings.Opening.TheVariants as opens
-use Rattle.condition_syntax.specs.Fronts.{is_keyword, stands, says}
+use Rattle.condition_syntax.specs.Words.{is_keyword, rel_of}
+use Rattle.condition_syntax.specs.Fronts.{stands, says}
 use Rattle.condition_syntax.specs.Trees.{Condition, always, never, comparison, delay, opposite, conjoined, disjoined, comparisons}
 use Rattle.condition_syntax.specs.Expressions.{expr_by}
-use Rattle.condition_syntax.specs.Conditions.{Pending, pending, Reader, behind, side_begins, counted, rel_of, rel_or, rel_by, comparison_by, rows_by, sign_by, delay_by, has_delays, opening_of, chain_by, conjunction_by, joined_by, opposite_by, bracketed_by, opened_by, too_deep, part_by, condition_within, condition_by}
+use Rattle.condition_syntax.specs.Conditions.{Pending, pending, Reader, behind, side_begins, counted, rel_or, rel_by, comparison_by, rows_by, sign_by, delay_by, has_delays, opening_of, chain_by, conjunction_by, joined_by, opposite_by, bracketed_by, opened_by, too_deep, part_by, condition_within, condition_by}
 use Rattle.condition_syntax.specs.Grammar.{IsNumber, IsNameWord, SpellsExpr, unsigned, negative, Joined, one, more, SpellsSimple, truth, falsity, test, compared, SpellsOpened, simple, negated, bracketed, Nothing, SpellsConjunction, SpellsJoined, SpellsPart, SpellsCond}
+use Rattle.condition_syntax.specs.Refused.{SideBegins}
 use Rattle.condition_syntax.specs.Ends.{Ending, EndsSimple, EndsOpened, EndsJoined, EndsPart, EndsConjunction, EndsWhole, EndsCond, Free}
 use Rattle.condition_syntax.proofs.EndLaws.{StopsExpr, Always, expr_ends, part_ends, conjunction_ends, whole_ends, word_stops, close_stops}
 use Rattle.condition_syntax.proofs.FrontLaws.{stands_there, says_there}
@@ -61,6 +63,13 @@ number_begins n d q tokens is = record { opens_so = λ style. rw (and_false (has
 minus_begins : (tokens : List Token) → Begins (sign Minus ∷ tokens)
 unfolding opening_of stands says side_begins
 minus_begins tokens = record { opens_so = λ style. rw (and_false (has_delays style)) refl; begins = refl }
+
+pub begins_so : (tokens : List Token) → SideBegins tokens → Begins tokens
+begins_so [] side = absurd side
+begins_so (word w ∷ tokens) side = word_begins w tokens side
+begins_so (number n d ∷ tokens) side = number_begins n d side.0 tokens side.1
+begins_so (sign s ∷ tokens) side = subst (λ (t : Sign). Begins (sign t ∷ tokens)) (sym side) (minus_begins tokens)
+begins_so (wrong ∷ tokens) side = absurd side
 
 leads_begin : {tokens : List Token} → Leads tokens → Begins tokens
 leads_begin (by_number is) = number_begins _ _ _ _ is

@@ -1,6 +1,6 @@
 -- Where reading a condition stops with a fault, the line is refused so.
 use Rattle.std.proofs.Common.{◌≡◌, ℕ, zero, suc, ◌+◌, ◌≤◌, ◌<◌, Bool, true, false, cond, leb, ◌⊎◌, ⊎_elim, inl, inr, Option, None, Some, Result, Ok, Err, List, [], ◌∷◌, ◌++◌, length, refl, sym, ap, subst, ◌∙◌, arith}
-use Rattle.std.specs.Prelude.{codes, unwrap_or, if◌then◌else◌}
+use Rattle.std.specs.Prelude.{codes, unwrap_or, ◌&&◌, if◌then◌else◌}
 use Rattle.std.proofs.lemmas.Bool.{leb-true}
 use Rattle.text_lines.specs.Steps.{◌>>=◌}
 use Rattle.source_text.specs.declared.lexemes.Sign.{Sign}
@@ -15,17 +15,18 @@ use Rattle.condition_syntax.specs.declared.faults.Fault.{Fault}
 use Rattle.condition_syntax.specs.declared.faults.Fault.TheVariants.{Number, Part, Depth, Count}
 use Rattle.condition_syntax.specs.declared.openings.Opening.{Opening}
 use Rattle.condition_syntax.specs.declared.openings.Opening.TheVariants as opens
-use Rattle.condition_syntax.specs.Fronts.{stands, says, blame}
+use Rattle.condition_syntax.specs.Fronts.{same_sign, stands, says, blame}
 use Rattle.condition_syntax.specs.Trees.{Condition, comparison, delay, comparisons}
 use Rattle.condition_syntax.specs.Expressions.{is_within, number_of, expr_by}
-use Rattle.condition_syntax.specs.Conditions.{Pending, pending, Reader, behind, side_begins, counted, rel_of, rel_or, rel_by, comparison_by, rows_by, sign_by, delay_by, has_delays, opening_of, chain_by, conjunction_by, joined_by, opposite_by, bracketed_by, opened_by, too_deep, part_by, condition_within, condition_by}
-use Rattle.condition_syntax.specs.Grammar.{SpellsExpr, Nothing, SpellsConjunction, SpellsJoined, SpellsPart}
+use Rattle.condition_syntax.specs.Words.{is_keyword, rel_of}
+use Rattle.condition_syntax.specs.Conditions.{Pending, pending, Reader, behind, side_begins, counted, rel_or, rel_by, comparison_by, rows_by, sign_by, delay_by, has_delays, opening_of, chain_by, conjunction_by, joined_by, opposite_by, bracketed_by, opened_by, too_deep, part_by, condition_within, condition_by}
+use Rattle.condition_syntax.specs.Grammar.{IsNameWord, SpellsExpr, Nothing, SpellsConjunction, SpellsJoined, SpellsPart}
 use Rattle.condition_syntax.specs.Ends.{Ending, Taken, EndsExpr, EndsPart, EndsConjunction, EndsWhole, Free}
-use Rattle.condition_syntax.specs.Refused.{IsOutside, SideMissing, NoNumber, NoRel, RefusesExpr, RefusesSimple, in_side, extra_comparison, in_left, at_relation, in_right, extra_delay, without_relation, without_rows, rows_outside, Refusing, RefusesOpened, in_simple, in_negated, in_brackets, unclosed, TooDeep, RefusesChain, in_one, in_others, RefusesWhole, RefusesPart, RefusesCond}
-use Rattle.condition_syntax.proofs.FrontLaws.{chosen, says_is}
+use Rattle.condition_syntax.specs.Refused.{IsInside, IsOutside, NoPart, SideBegins, SideMissing, NoNumber, NoRel, RefusesExpr, RefusesSimple, in_side, extra_comparison, in_left, at_relation, in_right, extra_delay, without_relation, without_rows, rows_outside, Refusing, RefusesOpened, in_simple, in_negated, in_brackets, unclosed, TooDeep, RefusesChain, in_one, in_others, RefusesWhole, RefusesPart, RefusesCond}
+use Rattle.condition_syntax.proofs.FrontLaws.{chosen, same_sign_is, says_is}
 use Rattle.condition_syntax.proofs.ExpressionsTaken.{expr_taken}
 use Rattle.condition_syntax.proofs.ConditionsTaken.{ReadsPart, Takes, shorter, counted_is, rel_taken, sign_taken, Opens, opening_is, conjunction_taken, part_taken, whole_taken, none_taken}
-use Rattle.condition_syntax.proofs.RefusedFrom.{bind_err, err_is, no_err, outside_from, number_refused, no_name, expr_refused}
+use Rattle.condition_syntax.proofs.RefusedFrom.{bind_err, err_is, no_err, inside_from, outside_from, number_refused, no_name, expr_refused}
 
 -- ---- comparisons and tests of delay
 
@@ -44,6 +45,49 @@ side_refused (sign s ∷ tokens) f e = by (stands Minus (sign s ∷ tokens)) ref
     by true p e = absurd (cc)
     by false p e = (p, cc)
 side_refused (wrong ∷ tokens) f e = cc
+
+side_begins_so : (tokens : List Token) → side_begins tokens ≡ Ok tt → SideBegins tokens
+unfolding side_begins stands
+side_begins_so [] e = absurd (cc)
+side_begins_so (word w ∷ tokens) e = by (is_keyword w) (leb (length w) 16) refl refl e
+  where
+    by : (k l : Bool) → is_keyword w ≡ k → leb (length w) 16 ≡ l → ◌≡◌ {A = Result (Unit {0}) Fault} (cond k (Err Part) (cond l (Ok tt) (Err Count))) (Ok tt) → IsNameWord w
+    by true l p q e = absurd (cc)
+    by false true p q e = record { free = p; short = leb-true (length w) 16 q }
+    by false false p q e = absurd (cc)
+side_begins_so (number n d ∷ tokens) e = by (is_within n (unwrap_or d 1)) refl e
+  where
+    by : (b : Bool) → is_within n (unwrap_or d 1) ≡ b → ◌≡◌ {A = Result (Unit {0}) Fault} (cond b (Ok tt) (Err Number)) (Ok tt) → IsInside n d
+    by true p e = inside_from n d p
+    by false p e = absurd (cc)
+side_begins_so (sign s ∷ tokens) e = by (same_sign Minus s) refl e
+  where
+    by : (b : Bool) → same_sign Minus s ≡ b → ◌≡◌ {A = Result (Unit {0}) Fault} (cond b (Ok tt) (Err Part)) (Ok tt) → s ≡ Minus
+    by true p e = same_sign_is Minus s p
+    by false p e = absurd (cc)
+side_begins_so (wrong ∷ tokens) e = absurd (cc)
+
+-- where a comparison is read, no other part opens
+no_part : (style : Style) (tokens : List Token) → opening_of style tokens ≡ opens.Comparison → NoPart style tokens
+unfolding opening_of
+no_part style tokens e =
+    by (stands Open tokens) (says (codes "not") tokens) (says (codes "true") tokens) (says (codes "false") tokens) (has_delays style && says (codes "delay") tokens)
+    refl refl refl refl refl e
+  where
+    by : (a b c d f : Bool) → stands Open tokens ≡ a → says (codes "not") tokens ≡ b → says (codes "true") tokens ≡ c → says (codes "false") tokens ≡ d → (has_delays style && says (codes "delay") tokens) ≡ f
+        → cond a opens.Bracket (cond b opens.Not (cond c opens.True (cond d opens.False (cond f opens.Delay opens.Comparison)))) ≡ opens.Comparison → NoPart style tokens
+    by true b c d f p q r s t e = absurd (cc)
+    by false true c d f p q r s t e = absurd (cc)
+    by false false true d f p q r s t e = absurd (cc)
+    by false false false true f p q r s t e = absurd (cc)
+    by false false false false true p q r s t e = absurd (cc)
+    by false false false false false p q r s t e = record {
+      no_bracket = p;
+      no_not = q;
+      no_truth = r;
+      no_falsity = s;
+      no_delay = λ is. subst (λ (y : Style). (has_delays y && says (codes "delay") tokens) ≡ false) is t;
+    }
 
 counted_refused : (begun : ℕ) (f : Fault) → counted begun ≡ Err f → (16 ≤ begun) × (f ≡ Count)
 unfolding counted
@@ -81,7 +125,7 @@ sign_refused : (s : Sign) (tokens : List Token) (f : Fault) → sign_by s tokens
 unfolding sign_by
 sign_refused s tokens f e = ⊎_elim (λ p. no_err (after tokens) f p.1) (λ p. (p.0, err_is (blame Part tokens) f p.1)) (chosen (stands s tokens) (Ok (after tokens)) (Err (blame Part tokens)) (Err f) e)
 
-module _ (style : Style) (begun : ℕ) (tokens : List Token) (f : Fault) (opens_so : opening_of style tokens ≡ opens.Comparison) where
+module _ (style : Style) (begun : ℕ) (tokens : List Token) (f : Fault) where
   -- behind the relation
   right_refused : (l : List ETerm × List Token) → begun < 16 → Taken (SpellsExpr style) (EndsExpr style) tokens l → (rel : Rel5 × List Token) → rel_by l.1 ≡ Ok rel → RefusesExpr style rel.1 f → RefusesSimple style begun tokens f
   right_refused l lt left rel read h =
@@ -94,34 +138,34 @@ module _ (style : Style) (begun : ℕ) (tokens : List Token) (f : Fault) (opens_
 
 comparison_refused : (style : Style) (s : Pending) (f : Fault) → opening_of style s.tokens ≡ opens.Comparison → comparison_by style s ≡ Err f → RefusesSimple style s.begun s.tokens f
 unfolding comparison_by
-comparison_refused style s f opens_so e = ⊎_elim (λ h. in_side opens_so (side_refused s.tokens f h)) (λ (u, (begins, h)). at_count begins (bind_err (counted s.begun) _ f h)) (bind_err (side_begins s.tokens) _ f e)
+comparison_refused style s f opens_so e = ⊎_elim (λ h. in_side (no_part style s.tokens opens_so) (side_refused s.tokens f h)) (λ (u, (begins, h)). at_count begins (bind_err (counted s.begun) _ f h)) (bind_err (side_begins s.tokens) _ f e)
   where
     at_right : (n : ℕ) → s.begun < 16 → (l : List ETerm × List Token) → Taken (SpellsExpr style) (EndsExpr style) s.tokens l → (rel : Rel5 × List Token) → rel_by l.1 ≡ Ok rel
         → (expr_by style rel.1 ≡ Err f) ⊎ ((r : List ETerm × List Token) × ((expr_by style rel.1 ≡ Ok r)
         × (◌≡◌ {A = Result (Condition × Pending) Fault} (Ok (comparison (record { terms = l.0 }) rel.0 (record { terms = r.0 }), record { begun = n; tokens = r.1 })) (Err f))))
         → RefusesSimple style s.begun s.tokens f
-    at_right n lt l left rel read (inl h) = right_refused style s.begun s.tokens f opens_so l lt left rel read (expr_refused style rel.1 f h)
+    at_right n lt l left rel read (inl h) = right_refused style s.begun s.tokens f l lt left rel read (expr_refused style rel.1 f h)
     at_right n lt l left rel read (inr (r, (g, h))) = no_err _ f h
 
     at_rel : (n : ℕ) → s.begun < 16 → (l : List ETerm × List Token) → Taken (SpellsExpr style) (EndsExpr style) s.tokens l
         → (rel_by l.1 ≡ Err f) ⊎ ((rel : Rel5 × List Token) × ((rel_by l.1 ≡ Ok rel)
         × (◌≡◌ {A = Result (Condition × Pending) Fault} (expr_by style rel.1 >>= λ right. Ok (comparison (record { terms = l.0 }) rel.0 (record { terms = right.0 }), record { begun = n; tokens = right.1 })) (Err f))))
         → RefusesSimple style s.begun s.tokens f
-    at_rel n lt l left (inl h) = relation_refused style s.begun s.tokens f opens_so l lt left (rel_refused l.1 f h)
+    at_rel n lt l left (inl h) = relation_refused style s.begun s.tokens f l lt left (rel_refused l.1 f h)
     at_rel n lt l left (inr (rel, (read, h))) = at_right n lt l left rel read (bind_err (expr_by style rel.1) _ f h)
 
     at_left : (n : ℕ) → s.begun < 16 → side_begins s.tokens ≡ Ok tt
         → (expr_by style s.tokens ≡ Err f) ⊎ ((l : List ETerm × List Token) × ((expr_by style s.tokens ≡ Ok l)
         × (◌≡◌ {A = Result (Condition × Pending) Fault} (rel_by l.1 >>= λ rel. expr_by style rel.1 >>= λ right. Ok (comparison (record { terms = l.0 }) rel.0 (record { terms = right.0 }), record { begun = n; tokens = right.1 })) (Err f))))
         → RefusesSimple style s.begun s.tokens f
-    at_left n lt begins (inl h) = in_left opens_so begins lt (expr_refused style s.tokens f h)
+    at_left n lt begins (inl h) = in_left (side_begins_so s.tokens begins) lt (expr_refused style s.tokens f h)
     at_left n lt begins (inr (l, (read, h))) = at_rel n lt l (expr_taken style s.tokens l read) (bind_err (rel_by l.1) _ f h)
 
     at_count : side_begins s.tokens ≡ Ok tt
         → (counted s.begun ≡ Err f) ⊎ ((n : ℕ) × ((counted s.begun ≡ Ok n)
         × (◌≡◌ {A = Result (Condition × Pending) Fault} (expr_by style s.tokens >>= λ l. rel_by l.1 >>= λ rel. expr_by style rel.1 >>= λ right. Ok (comparison (record { terms = l.0 }) rel.0 (record { terms = right.0 }), record { begun = n; tokens = right.1 })) (Err f))))
         → RefusesSimple style s.begun s.tokens f
-    at_count begins (inl h) = let c = counted_refused s.begun f h in subst (RefusesSimple style s.begun s.tokens) (sym c.1) (extra_comparison opens_so begins c.0)
+    at_count begins (inl h) = let c = counted_refused s.begun f h in subst (RefusesSimple style s.begun s.tokens) (sym c.1) (extra_comparison (side_begins_so s.tokens begins) c.0)
     at_count begins (inr (n, (read, h))) = at_left n (below s.begun n read) begins (bind_err (expr_by style s.tokens) _ f h)
 
 -- ---- tests of delay

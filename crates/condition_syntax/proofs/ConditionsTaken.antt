@@ -17,7 +17,8 @@ use Rattle.condition_syntax.specs.declared.openings.Opening.TheVariants as opens
 use Rattle.condition_syntax.specs.Fronts.{stands, says, blame}
 use Rattle.condition_syntax.specs.Trees.{Condition, always, never, comparison, delay, opposite, conjunction, disjunction, conjoined, disjoined, comparisons}
 use Rattle.condition_syntax.specs.Expressions.{number_of, expr_by}
-use Rattle.condition_syntax.specs.Conditions.{Pending, pending, Reader, behind, side_begins, counted, rel_of, rel_or, rel_by, comparison_by, rows_by, sign_by, delay_by, has_delays, opening_of, chain_by, conjunction_by, joined_by, opposite_by, bracketed_by, opened_by, too_deep, part_by, condition_within, condition_by}
+use Rattle.condition_syntax.specs.Words.{rel_of}
+use Rattle.condition_syntax.specs.Conditions.{Pending, pending, Reader, behind, side_begins, counted, rel_or, rel_by, comparison_by, rows_by, sign_by, delay_by, has_delays, opening_of, chain_by, conjunction_by, joined_by, opposite_by, bracketed_by, opened_by, too_deep, part_by, condition_within, condition_by}
 use Rattle.condition_syntax.specs.Grammar.{IsNumber, Joined, one, more, SpellsSimple, truth, falsity, test, compared, SpellsOpened, simple, negated, bracketed, Nothing, SpellsConjunction, SpellsJoined, SpellsPart, SpellsCond}
 use Rattle.condition_syntax.specs.Ends.{Ending, Taken, EndsSimple, EndsOpened, EndsJoined, EndsPart, EndsConjunction, EndsWhole, EndsCond, Free}
 use Rattle.condition_syntax.proofs.FrontLaws.{chosen, guard_ok, stands_is, says_is}

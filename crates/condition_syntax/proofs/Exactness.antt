@@ -1,5 +1,5 @@
 -- What the readers' exact clauses say of what is read, what is spelled and what is refused.
-use Rattle.std.proofs.Common.{◌≡◌, ℕ, Result, Ok, Err, List, ◌++◌, refl, sym, ap, subst, ◌∙◌}
+use Rattle.std.proofs.Common.{◌≡◌, ℕ, Result, Ok, Err, List, ◌++◌, ◌⊎◌, inl, inr, refl, sym, ap, subst, ◌∙◌}
 use Rattle.std.specs.Prelude.{IfOk, IsErrOf}
 use Rattle.text_lines.proofs.StepLaws.{ok_is}
 use Rattle.whole.specs.declared.answers.ReadFault.{ReadFault}
@@ -130,6 +130,22 @@ one_expr_fault style tokens a b p q = same_fault {X = List ETerm × List Token} 
 
 pub no_expr : (style : Style) (front left : List Token) (ts : List ETerm) (a : Fault) (p : SpellsExpr style front ts) → EndsExpr style front ts p left → RefusesExpr style (front ++ left) a → ⊥
 no_expr style front left ts a p ends q = let h = sym (expr_again left p ends) ∙ expr_stops q in cc
+
+-- tokens begin with an expression, or are refused
+pub either_expr : (style : Style) (tokens : List Token) → ((x : List ETerm × List Token) × Taken (SpellsExpr style) (EndsExpr style) tokens x) ⊎ ((a : Fault) × RefusesExpr style tokens a)
+either_expr style tokens = by (expr_by style tokens) refl
+  where
+    by : (r : Read (List ETerm)) → expr_by style tokens ≡ r → ((x : List ETerm × List Token) × Taken (SpellsExpr style) (EndsExpr style) tokens x) ⊎ ((a : Fault) × RefusesExpr style tokens a)
+    by (Ok x) e = inl (x, expr_taken style tokens x e)
+    by (Err a) e = inr (a, expr_refused style tokens a e)
+
+-- tokens begin with a condition, or are refused
+pub either_condition : (style : Style) (tokens : List Token) → ((x : Condition × List Token) × Taken (SpellsCond style) (EndsCond style) tokens x) ⊎ ((a : Fault) × RefusesCond style tokens a)
+either_condition style tokens = by (condition_by style tokens) refl
+  where
+    by : (r : Read Condition) → condition_by style tokens ≡ r → ((x : Condition × List Token) × Taken (SpellsCond style) (EndsCond style) tokens x) ⊎ ((a : Fault) × RefusesCond style tokens a)
+    by (Ok x) e = inl (x, condition_taken style tokens x e)
+    by (Err a) e = inr (a, condition_refused style tokens a e)
 
 -- ---- printing
 

@@ -15,7 +15,7 @@ use Rattle.weighing.specs.declared.scales.Num.{Num}
 use Rattle.condition_syntax.specs.declared.conditions.Style.{Style}
 use Rattle.condition_syntax.specs.declared.expressions.Name.{Name}
 use Rattle.condition_syntax.specs.declared.expressions.ETerm.{ETerm}
-use Rattle.condition_syntax.specs.Expressions.{fraction, signed}
+use Rattle.condition_syntax.specs.Words.{fraction, signed}
 use Rattle.condition_syntax.specs.Grammar.{IsNumber, SpellsFlow, no_flow, some_flow, SpellsStep, no_step, some_step, SpellsName, plain, placed, SpellsTerm, constant, multiple, single, joint_of, SpellsTerms, last_term, more_terms, SpellsExpr, unsigned, negative}
 use Rattle.condition_syntax.specs.Printing.{denominator_text, number_text, mark_text, name_text, is_unit, unsigned_text, is_negative, first_text, later_text, expr_text}
 use Rattle.condition_syntax.specs.Printed.{Shows, Prints, EndsToken}

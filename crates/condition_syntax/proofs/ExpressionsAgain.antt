@@ -14,7 +14,8 @@ use Rattle.condition_syntax.specs.declared.expressions.Name.{Name}
 use Rattle.condition_syntax.specs.declared.expressions.ETerm.{ETerm}
 use Rattle.condition_syntax.specs.declared.faults.Fault.TheVariants.{Number, Term, Count}
 use Rattle.condition_syntax.specs.Fronts.{stands}
-use Rattle.condition_syntax.specs.Expressions.{fraction, is_within, number_of, signed, word_by, digits_by, flow_by, step_by, named_by, name_by, factor_by, single_by, term_by, onward, terms_by, expr_by}
+use Rattle.condition_syntax.specs.Words.{fraction, signed}
+use Rattle.condition_syntax.specs.Expressions.{is_within, number_of, word_by, digits_by, flow_by, step_by, named_by, name_by, factor_by, single_by, term_by, onward, terms_by, expr_by}
 use Rattle.condition_syntax.specs.Grammar.{IsNumber, IsNameWord, SpellsFlow, no_flow, some_flow, SpellsStep, no_step, some_step, SpellsName, plain, placed, SpellsTerm, constant, multiple, single, joint_of, SpellsTerms, last_term, more_terms, SpellsExpr, unsigned, negative}
 use Rattle.condition_syntax.specs.Ends.{EndsFlow, EndsStep, EndsPlaces, EndsName, EndsTerm, EndsTerms, EndsExpr}
 use Rattle.condition_syntax.proofs.EndLaws.{term_ends, joint_stops}
@@ -72,7 +73,7 @@ places_again : (w : List ℕ) (fs middle rest : List Token) (f s : Option ℕ) �
 unfolding named_by
 places_again w fs middle rest f s flow step = rw (flow, step) refl
 
-named_again : {w : List ℕ} {fs ss : List Token} {f s : Option ℕ} (rest : List Token) (flow : SpellsFlow fs f) (step : SpellsStep w ss s) → EndsPlaces fs f w ss s flow step rest
+pub named_again : {w : List ℕ} {fs ss : List Token} {f s : Option ℕ} (rest : List Token) (flow : SpellsFlow fs f) (step : SpellsStep w ss s) → EndsPlaces fs f w ss s flow step rest
     → named_by Question w (fs ++ (ss ++ rest)) ≡ Ok (record { text = w; flow = f; step = s }, rest)
 named_again {w} {fs} {ss} {f} {s} rest flow (no_step is) ends = places_again w fs rest rest f s (flow_again rest flow ends.0) (no_step_at w rest is ends.1)
 named_again {w} {fs} {ss} {f} {s} rest flow (some_step n) ends =
@@ -128,7 +129,7 @@ unfolding single_by
 single_again sg rest name ends = rw (name_again rest name ends) refl
 
 -- a name begins no number
-named_term : {style : Style} {front : List Token} {x : Name} (sg : Bool) (rest : List Token) → SpellsName style front x → term_by style sg (front ++ rest) ≡ single_by style sg (front ++ rest)
+pub named_term : {style : Style} {front : List Token} {x : Name} (sg : Bool) (rest : List Token) → SpellsName style front x → term_by style sg (front ++ rest) ≡ single_by style sg (front ++ rest)
 unfolding term_by
 named_term sg rest (plain may) = refl
 named_term sg rest (placed may flow step) = refl

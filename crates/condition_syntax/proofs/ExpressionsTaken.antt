@@ -16,8 +16,9 @@ use Rattle.condition_syntax.specs.declared.expressions.Name.{Name}
 use Rattle.condition_syntax.specs.declared.expressions.ETerm.{ETerm}
 use Rattle.condition_syntax.specs.declared.faults.Fault.{Fault}
 use Rattle.condition_syntax.specs.declared.faults.Fault.TheVariants.{Number, Term, Count}
-use Rattle.condition_syntax.specs.Fronts.{is_keyword, stands, blame}
-use Rattle.condition_syntax.specs.Expressions.{Read, fraction, is_within, number_of, signed, word_by, digits_by, found, flow_by, step_by, named_by, name_by, factor_by, single_by, term_by, onward, others_by, terms_by, expr_by}
+use Rattle.condition_syntax.specs.Words.{is_keyword, fraction, signed}
+use Rattle.condition_syntax.specs.Fronts.{stands, blame}
+use Rattle.condition_syntax.specs.Expressions.{Read, is_within, number_of, word_by, digits_by, found, flow_by, step_by, named_by, name_by, factor_by, single_by, term_by, onward, others_by, terms_by, expr_by}
 use Rattle.condition_syntax.specs.Grammar.{IsNumber, IsNameWord, SpellsFlow, no_flow, some_flow, SpellsStep, no_step, some_step, SpellsName, plain, placed, SpellsTerm, constant, multiple, single, joint_of, SpellsTerms, last_term, more_terms, SpellsExpr, unsigned, negative}
 use Rattle.condition_syntax.specs.Ends.{Taken, EndsFlow, EndsStep, EndsPlaces, EndsName, EndsTerm, EndsTerms, EndsExpr}
 use Rattle.condition_syntax.proofs.FrontLaws.{chosen, guard_ok, stands_is}
@@ -97,7 +98,7 @@ flow_taken tokens x e = ⊎_elim marked bare (chosen (stands Dot tokens) (found 
     bare : (stands Dot tokens ≡ false) × (◌≡◌ {A = Read (Option ℕ)} (Ok (None, tokens)) (Ok x)) → Taken SpellsFlow EndsFlow tokens x
     bare p = subst (Taken SpellsFlow EndsFlow tokens) (ok_is {E = Fault} (None, tokens) x p.1) (record { front = []; parts = refl; spelled = no_flow; ends = p.0 })
 
-step_taken : (w : List ℕ) (tokens : List Token) (x : Option ℕ × List Token) → step_by w tokens ≡ Ok x → Taken (SpellsStep w) (EndsStep w) tokens x
+pub step_taken : (w : List ℕ) (tokens : List Token) (x : Option ℕ × List Token) → step_by w tokens ≡ Ok x → Taken (SpellsStep w) (EndsStep w) tokens x
 unfolding step_by
 step_taken w tokens x e = ⊎_elim marked bare (chosen (stands At tokens) (found (digits_by (after tokens))) (cond (bytes_eq w (codes "credit")) (Ok (None, tokens)) (Err (blame Term tokens))) (Ok x) e)
   where

@@ -7,6 +7,8 @@ pub mod ChainLoop
 pub mod PartLaws
 pub mod TreeLaws
 pub mod ExpressionsAgain
+mod LongestExpressions
+mod LongestConditions
 pub mod ConditionsAgain
 pub mod Exactness
 pub mod TextLaws

@@ -13,11 +13,11 @@ use Rattle.condition_syntax.specs.declared.conditions.Cond.{Cond}
 use Rattle.condition_syntax.specs.declared.expressions.Name.{Name}
 use Rattle.condition_syntax.specs.declared.expressions.ETerm.{ETerm}
 use Rattle.condition_syntax.specs.declared.expressions.Expr.{Expr}
-use Rattle.condition_syntax.specs.Expressions.{fraction, signed}
-use Rattle.condition_syntax.specs.Trees.{Condition, conjunction, disjunction, conjoined, disjoined, condition_of}
+use Rattle.condition_syntax.specs.Words.{fraction, signed}
+use Rattle.condition_syntax.specs.Trees.{Condition, EachExpr, EachDelay, conjunction, disjunction, conjoined, disjoined, condition_of}
 use Rattle.condition_syntax.specs.Grammar.{IsNumber, SpellsName, plain, placed, SpellsTerm, constant, multiple, single, SpellsTerms, last_term, more_terms, SpellsExpr, unsigned, negative, Joined, one, more, SpellsSimple, truth, falsity, test, compared, SpellsOpened, simple, negated, bracketed, Nothing, SpellsConjunction, SpellsJoined, SpellsPart, SpellsCond}
 use Rattle.condition_syntax.specs.Ends.{Taken, EndsExpr, EndsCond}
-use Rattle.condition_syntax.specs.Limits.{IsTerm, IsExpr, EachExpr, EachDelay, IsCondition}
+use Rattle.condition_syntax.specs.Limits.{IsTerm, IsExpr, IsCondition}
 
 fraction_within : (sg : Bool) (n d : ℕ) → n ≤ 1000000 → 1 ≤ d → d ≤ 1000 → IsNum (signed sg (fraction n d))
 fraction_within false n d num_to den_from den_to = record { num_to = num_to; den_from = omega (arith, ints); den_to = omega (arith, ints) }

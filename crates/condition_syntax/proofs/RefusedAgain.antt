@@ -9,23 +9,24 @@ use Rattle.source_text.specs.Tokens.{Token, word, number, sign, wrong, after}
 use Rattle.weighing.specs.declared.scales.Num.{Num}
 use Rattle.weighing.specs.declared.weighings.Rel5.{Rel5}
 use Rattle.condition_syntax.specs.declared.conditions.Style.{Style}
-use Rattle.condition_syntax.specs.declared.conditions.Style.TheVariants.{Question}
+use Rattle.condition_syntax.specs.declared.conditions.Style.TheVariants.{Controller, Question}
 use Rattle.condition_syntax.specs.declared.expressions.ETerm.{ETerm}
 use Rattle.condition_syntax.specs.declared.faults.Fault.{Fault}
 use Rattle.condition_syntax.specs.declared.faults.Fault.TheVariants.{Number, Term, Part, Count}
 use Rattle.condition_syntax.specs.declared.openings.Opening.{Opening}
 use Rattle.condition_syntax.specs.declared.openings.Opening.TheVariants as opens
-use Rattle.condition_syntax.specs.Fronts.{is_keyword, stands, says, blame}
+use Rattle.condition_syntax.specs.Words.{is_keyword, signed}
+use Rattle.condition_syntax.specs.Fronts.{stands, says, blame}
 use Rattle.condition_syntax.specs.Trees.{Condition, comparisons}
-use Rattle.condition_syntax.specs.Expressions.{is_within, number_of, signed, word_by, digits_by, flow_by, step_by, named_by, name_by, factor_by, single_by, term_by, extra_term, onward, terms_by, expr_by}
+use Rattle.condition_syntax.specs.Expressions.{is_within, number_of, word_by, digits_by, flow_by, step_by, named_by, name_by, factor_by, single_by, term_by, extra_term, onward, terms_by, expr_by}
 use Rattle.condition_syntax.specs.Conditions.{Pending, pending, Reader, behind, side_begins, counted, rel_or, rel_by, comparison_by, rows_by, sign_by, delay_by, opening_of, chain_by, conjunction_by, joined_by, opposite_by, bracketed_by, opened_by, too_deep, part_by, condition_within, condition_by}
 use Rattle.condition_syntax.specs.Grammar.{IsNameWord, joint_of, Nothing, SpellsConjunction, SpellsJoined, SpellsPart}
 use Rattle.condition_syntax.specs.Ends.{Ending, EndsPart, EndsConjunction, EndsWhole, Free}
-use Rattle.condition_syntax.specs.Refused.{IsOutside, NoName, NameMissing, TermMissing, SideMissing, NoDigits, NoNumber, NoRel, RefusesName, in_word, in_flow, in_step, without_step, RefusesTerm, in_front, in_multiple, in_single, RefusesTerms, in_first, in_later, one_too_many, RefusesExpr, unsigned_refused, negative_refused, RefusesSimple, in_side, extra_comparison, in_left, at_relation, in_right, extra_delay, without_relation, without_rows, rows_outside, Refusing, RefusesOpened, in_simple, in_negated, in_brackets, unclosed, TooDeep, RefusesChain, in_one, in_others, RefusesWhole, RefusesPart, RefusesCond}
+use Rattle.condition_syntax.specs.Refused.{IsOutside, NoName, NoPart, TermTooMany, NameMissing, TermMissing, SideMissing, NoDigits, NoNumber, NoRel, RefusesName, in_word, in_flow, in_step, without_step, RefusesTerm, in_front, in_multiple, in_single, RefusesTerms, in_first, in_later, one_too_many, RefusesExpr, unsigned_refused, negative_refused, RefusesSimple, in_side, extra_comparison, in_left, at_relation, in_right, extra_delay, without_relation, without_rows, rows_outside, Refusing, RefusesOpened, in_simple, in_negated, in_brackets, unclosed, TooDeep, RefusesChain, in_one, in_others, RefusesWhole, RefusesPart, RefusesCond}
 use Rattle.condition_syntax.proofs.FrontLaws.{stands_there, says_there}
 use Rattle.condition_syntax.proofs.EndLaws.{Always, expr_ends, term_ends, joint_stops, part_ends, conjunction_ends, word_stops}
-use Rattle.condition_syntax.proofs.ExpressionsAgain.{word_again, flow_again, at_ends_flow, numbered_term, term_again, onward_there, joint_is_passed, unsigned_again, negative_again, expr_again}
-use Rattle.condition_syntax.proofs.ConditionsAgain.{expr_begins, rel_stops, rel_again, counted_again, opens_not, opens_bracket, opens_delay, read_as, Again, part_again, conjunction_again, whole_again, or_is_no_and, nothing_again}
+use Rattle.condition_syntax.proofs.ExpressionsAgain.{within_from, word_again, flow_again, at_ends_flow, numbered_term, term_again, onward_there, joint_is_passed, unsigned_again, negative_again, expr_again}
+use Rattle.condition_syntax.proofs.ConditionsAgain.{begins_so, expr_begins, rel_stops, rel_again, counted_again, opens_not, opens_bracket, opens_delay, read_as, Again, part_again, conjunction_again, whole_again, or_is_no_and, nothing_again}
 
 -- ---- numbers and names
 
@@ -125,6 +126,16 @@ later_stops : (style : Style) (room : ℕ) (sg next : Bool) (tokens rest : List 
 unfolding terms_by
 later_stops style room sg next tokens rest t f read on err = rw (read, on, err) refl
 
+extra_term_is : (tokens : List Token) (f : Fault) → TermTooMany tokens f → f ≡ extra_term tokens
+unfolding extra_term
+extra_term_is [] f is = is
+extra_term_is (word w ∷ tokens) f (inl (keyword, is)) = rw keyword is
+extra_term_is (word w ∷ tokens) f (inr (free, is)) = rw free is
+extra_term_is (number n d ∷ tokens) f (inl (out, is)) = rw (outside_is n (unwrap_or d 1) out) is
+extra_term_is (number n d ∷ tokens) f (inr (inside, is)) = rw (within_from n d inside.0 inside.1) is
+extra_term_is (sign s ∷ tokens) f is = is
+extra_term_is (wrong ∷ tokens) f is = is
+
 extra_stops : (style : Style) (sg : Bool) (tokens : List Token) (f : Fault) → f ≡ extra_term tokens → terms_by style zero sg tokens ≡ Err f
 unfolding terms_by
 extra_stops style sg tokens f is = rw is refl
@@ -134,7 +145,7 @@ terms_stop {style} {sg = sg} (in_first {room = room} {tokens = tokens} {fault = 
 terms_stop {style} {sg = sg} (in_later {room = room} {next = next} {front = front} {t = t} {fault = f} left term others) =
     later_stops style room sg next (front ++ joint_of next ∷ left) (joint_of next ∷ left) t f (term_again (joint_of next ∷ left) term (term_ends (joint_of next ∷ left) (joint_stops next left) term)) (onward_there next left)
     (ap (terms_by style room next) (joint_is_passed next left) ∙ terms_stop others)
-terms_stop {style} {sg = sg} (one_too_many {tokens = tokens} {fault = f} is) = extra_stops style sg tokens f is
+terms_stop {style} {sg = sg} (one_too_many {tokens = tokens} {fault = f} is) = extra_stops style sg tokens f (extra_term_is tokens f is)
 
 pub expr_stops : {style : Style} {tokens : List Token} {f : Fault} → RefusesExpr style tokens f → expr_by style tokens ≡ Err f
 expr_stops {style} (unsigned_refused {tokens = tokens} none terms) = unsigned_again style tokens none ∙ terms_stop terms
@@ -214,10 +225,19 @@ as_comparison : (style : Style) (part whole : Reader) (begun : ℕ) (tokens : Li
     → read_as style part whole (pending begun tokens) ≡ Err f
 as_comparison style part whole begun tokens f opens_so err = ap (λ (o : Opening). opened_by style part whole o (pending begun tokens)) opens_so ∙ err
 
+opens_none : (style : Style) (tokens : List Token) → NoPart style tokens → opening_of style tokens ≡ opens.Comparison
+unfolding opening_of
+opens_none Controller tokens is = rw (is.no_bracket, is.no_not, is.no_truth, is.no_falsity, is.no_delay refl) refl
+opens_none Question tokens is = rw (is.no_bracket, is.no_not, is.no_truth, is.no_falsity) refl
+
 simple_stops : {style : Style} {begun : ℕ} {tokens : List Token} {f : Fault} (part whole : Reader) → RefusesSimple style begun tokens f → read_as style part whole (pending begun tokens) ≡ Err f
-simple_stops {style} {begun} part whole (in_side {tokens = tokens} {fault = f} opens_so missing) = as_comparison style part whole begun tokens f opens_so (stops_at_side style begun tokens f (side_missing tokens f missing))
-simple_stops {style} {begun} part whole (extra_comparison {tokens = tokens} opens_so begins le) = as_comparison style part whole begun tokens Count opens_so (stops_at_count style begun tokens Count begins (counted_stops begun le))
-simple_stops {style} {begun} part whole (in_left {tokens = tokens} {fault = f} opens_so begins lt left) = as_comparison style part whole begun tokens f opens_so (stops_at_left style begun tokens f begins lt (expr_stops left))
+simple_stops {style} {begun} part whole (in_side {tokens = tokens} {fault = f} unopened missing) = as_comparison style part whole begun tokens f (opens_none style tokens unopened) (stops_at_side style begun tokens f (side_missing tokens f missing))
+simple_stops {style} {begun} part whole (extra_comparison {tokens = tokens} side le) =
+    let begins = begins_so tokens side in
+    as_comparison style part whole begun tokens Count (begins.opens_so style) (stops_at_count style begun tokens Count begins.begins (counted_stops begun le))
+simple_stops {style} {begun} part whole (in_left {tokens = tokens} {fault = f} side lt left) =
+    let begins = begins_so tokens side in
+    as_comparison style part whole begun tokens f (begins.opens_so style) (stops_at_left style begun tokens f begins.begins lt (expr_stops left))
 simple_stops {style} {begun} part whole (at_relation {front = front} {ts = ts} {fault = f} left lt spelled ends none is) =
     let begins = expr_begins left spelled in
     as_comparison style part whole begun (front ++ left) f (begins.opens_so style)

@@ -15,11 +15,12 @@ use Rattle.condition_syntax.specs.declared.expressions.Name.{Name}
 use Rattle.condition_syntax.specs.declared.expressions.ETerm.{ETerm}
 use Rattle.condition_syntax.specs.declared.faults.Fault.{Fault}
 use Rattle.condition_syntax.specs.declared.faults.Fault.TheVariants.{WrongByte, Number, Term, Count}
-use Rattle.condition_syntax.specs.Fronts.{is_keyword, stands, blame}
-use Rattle.condition_syntax.specs.Expressions.{Read, fraction, is_within, number_of, signed, word_by, digits_by, found, flow_by, step_by, named_by, name_by, factor_by, single_by, term_by, extra_term, onward, others_by, terms_by, expr_by}
+use Rattle.condition_syntax.specs.Words.{is_keyword, fraction, signed}
+use Rattle.condition_syntax.specs.Fronts.{stands, blame}
+use Rattle.condition_syntax.specs.Expressions.{Read, is_within, number_of, word_by, digits_by, found, flow_by, step_by, named_by, name_by, factor_by, single_by, term_by, extra_term, onward, others_by, terms_by, expr_by}
 use Rattle.condition_syntax.specs.Grammar.{IsNumber, IsNameWord, SpellsFlow, SpellsTerm}
 use Rattle.condition_syntax.specs.Ends.{Taken, EndsFlow, EndsTerm}
-use Rattle.condition_syntax.specs.Refused.{IsOutside, NoName, NameMissing, NoDigits, RefusesName, in_word, in_flow, in_step, without_step, RefusesTerm, in_front, in_multiple, in_single, RefusesTerms, in_first, in_later, one_too_many, RefusesExpr, unsigned_refused, negative_refused}
+use Rattle.condition_syntax.specs.Refused.{IsInside, IsOutside, TermTooMany, NoName, NameMissing, NoDigits, RefusesName, in_word, in_flow, in_step, without_step, RefusesTerm, in_front, in_multiple, in_single, RefusesTerms, in_first, in_later, one_too_many, RefusesExpr, unsigned_refused, negative_refused}
 use Rattle.condition_syntax.proofs.FrontLaws.{chosen, stands_is}
 use Rattle.condition_syntax.proofs.ExpressionsTaken.{number_taken, word_taken, flow_taken, term_taken, onward_is}
 
@@ -143,6 +144,26 @@ name_refused style tokens f e = ⊎_elim (λ h. in_word (word_refused tokens f h
 
 -- ---- terms and expressions
 
+pub inside_from : (n : ℕ) (d : Option ℕ) → is_within n (unwrap_or d 1) ≡ true → IsInside n d
+unfolding number_of
+inside_from n d e = (fraction n (unwrap_or d 1), number_taken n d (fraction n (unwrap_or d 1)) (rw e refl))
+
+too_many : (tokens : List Token) (f : Fault) → f ≡ extra_term tokens → TermTooMany tokens f
+unfolding extra_term
+too_many [] f is = is
+too_many (word w ∷ tokens) f is = by (is_keyword w) refl is
+  where
+    by : (k : Bool) → is_keyword w ≡ k → f ≡ cond k Term Count → ((is_keyword w ≡ true) × (f ≡ Term)) ⊎ ((is_keyword w ≡ false) × (f ≡ Count))
+    by true p e = inl (p, e)
+    by false p e = inr (p, e)
+too_many (number n d ∷ tokens) f is = by (is_within n (unwrap_or d 1)) refl is
+  where
+    by : (b : Bool) → is_within n (unwrap_or d 1) ≡ b → f ≡ cond b Count Number → (IsOutside n d × (f ≡ Number)) ⊎ (IsInside n d × (f ≡ Count))
+    by true p e = inr (inside_from n d p, e)
+    by false p e = inl (outside_from n (unwrap_or d 1) p, e)
+too_many (sign s ∷ tokens) f is = is
+too_many (wrong ∷ tokens) f is = is
+
 single_refused : (style : Style) (sg : Bool) (tokens : List Token) (f : Fault) → single_by style sg tokens ≡ Err f → name_by style tokens ≡ Err f
 unfolding single_by
 single_refused style sg tokens f e = ⊎_elim (λ h. h) (λ p. no_err _ f p.1.1) (bind_err (name_by style tokens) _ f e)
@@ -180,7 +201,7 @@ others_refused style room sg tokens t (Some next) f first n others e =
 
 pub terms_refused : (style : Style) (room : ℕ) (sg : Bool) (tokens : List Token) (f : Fault) → terms_by style room sg tokens ≡ Err f → RefusesTerms style room sg tokens f
 unfolding terms_by
-terms_refused style zero sg tokens f e = one_too_many (err_is (extra_term tokens) f e)
+terms_refused style zero sg tokens f e = one_too_many (too_many tokens f (err_is (extra_term tokens) f e))
 terms_refused style (suc room) sg tokens f e = behind_term style room sg tokens f (λ t joint h. terms_refused style room joint (after t) f h) (bind_err (term_by style sg tokens) _ f e)
   where
     behind_term : (style : Style) (room : ℕ) (sg : Bool) (tokens : List Token) (f : Fault) → ((t : List Token) (joint : Bool) → terms_by style room joint (after t) ≡ Err f → RefusesTerms style room joint (after t) f)

@@ -1,6 +1,6 @@
 -- What spells an expression or a condition has no byte that begins no token.
-use Rattle.std.proofs.Common.{◌≡◌, ℕ, zero, suc, Bool, true, false, Option, None, Some, List, [], ◌∷◌, ◌++◌}
-use Rattle.source_text.specs.Tokens.{Token, word, number, sign}
+use Rattle.std.proofs.Common.{ℕ, zero, suc, Bool, true, false, Option, List, ◌∷◌}
+use Rattle.source_text.specs.Tokens.{Token, word, sign}
 use Rattle.source_text.proofs.CleanLaws.{AreRight, right-append}
 use Rattle.condition_syntax.specs.declared.conditions.Style.{Style}
 use Rattle.condition_syntax.specs.declared.expressions.Name.{Name}

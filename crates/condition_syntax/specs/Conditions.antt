@@ -2,18 +2,18 @@
 use Rattle.std.specs.Prelude.{ℕ, zero, suc, ◌+◌, List, [], ◌∷◌, length, Bool, true, false, ◌&&◌, nat_le, if◌then◌else◌, codes, Option, None, Some, unwrap_or, Result, Ok, Err}
 use Rattle.text_lines.specs.Steps.{◌>>=◌}
 use Rattle.source_text.specs.declared.lexemes.Sign.{Sign}
-use Rattle.source_text.specs.declared.lexemes.Sign.TheVariants.{AtMost, Below, AtLeast, Above, Equal, Minus, Open, Close}
+use Rattle.source_text.specs.declared.lexemes.Sign.TheVariants.{AtLeast, Minus, Open, Close}
 use Rattle.source_text.specs.Tokens.{Token, word, number, sign, wrong, after}
 use Rattle.weighing.specs.declared.scales.Num.{Num}
 use Rattle.weighing.specs.declared.weighings.Rel5.{Rel5}
-use Rattle.weighing.specs.declared.weighings.Rel5.TheVariants as rels
 use Rattle.condition_syntax.specs.declared.conditions.Style.{Style}
 use Rattle.condition_syntax.specs.declared.conditions.Style.TheVariants.{Controller, Question}
 use Rattle.condition_syntax.specs.declared.faults.Fault.{Fault}
 use Rattle.condition_syntax.specs.declared.faults.Fault.TheVariants.{WrongByte, Number, Part, Depth, Count}
 use Rattle.condition_syntax.specs.declared.openings.Opening.{Opening}
 use Rattle.condition_syntax.specs.declared.openings.Opening.TheVariants as opens
-use Rattle.condition_syntax.specs.Fronts.{is_keyword, stands, says, blame}
+use Rattle.condition_syntax.specs.Words.{is_keyword, rel_of}
+use Rattle.condition_syntax.specs.Fronts.{stands, says, blame}
 use Rattle.condition_syntax.specs.Expressions.{Read, is_within, number_of, expr_by}
 use Rattle.condition_syntax.specs.Trees.{Condition, always, never, comparison, delay, opposite, conjoined, disjoined}
 
@@ -46,14 +46,6 @@ side_begins (wrong ∷ tokens) = Err WrongByte
 -- one comparison more; a condition has 16 at most
 unfoldable pub counted : ℕ → Result ℕ Fault
 counted begun = if nat_le 16 begun then Err Count else Ok (begun + 1)
-
-abbrev pub rel_of : Sign → Option Rel5
-rel_of AtMost = Some rels.AtMost
-rel_of Below = Some rels.Below
-rel_of AtLeast = Some rels.AtLeast
-rel_of Above = Some rels.Above
-rel_of Equal = Some rels.Equal
-rel_of _ = None
 
 abbrev pub rel_or : Option Rel5 → List Token → Read Rel5
 rel_or None tokens = Err Part

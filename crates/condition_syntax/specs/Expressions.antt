@@ -1,8 +1,7 @@
 -- Reading an expression from the left: its value and the tokens behind it, or what is wrong at the first token that may
 -- not stand where it does.
-use Rattle.std.specs.Prelude.{ℕ, zero, suc, pos, List, [], ◌∷◌, length, Bool, true, false, ◌&&◌, nat_le, if◌then◌else◌, codes, Option, None, Some, unwrap_or, Result, Ok, Err}
+use Rattle.std.specs.Prelude.{ℕ, zero, suc, List, [], ◌∷◌, length, Bool, true, false, ◌&&◌, nat_le, if◌then◌else◌, codes, Option, None, Some, unwrap_or, Result, Ok, Err}
 use Rattle.std.specs.Str.{bytes_eq}
-use Rattle.std.proofs.Common.{neg_ℤ}
 use Rattle.text_lines.specs.Steps.{◌>>=◌}
 use Rattle.source_text.specs.declared.lexemes.Sign.TheVariants.{Plus, Minus, Times, Dot, At}
 use Rattle.source_text.specs.Tokens.{Token, word, number, sign, wrong, after}
@@ -13,7 +12,8 @@ use Rattle.condition_syntax.specs.declared.expressions.Name.{Name}
 use Rattle.condition_syntax.specs.declared.expressions.ETerm.{ETerm}
 use Rattle.condition_syntax.specs.declared.faults.Fault.{Fault}
 use Rattle.condition_syntax.specs.declared.faults.Fault.TheVariants.{WrongByte, Number, Term, Count}
-use Rattle.condition_syntax.specs.Fronts.{is_keyword, stands, blame}
+use Rattle.condition_syntax.specs.Words.{fraction, is_keyword, signed}
+use Rattle.condition_syntax.specs.Fronts.{stands, blame}
 
 -- a value and the tokens behind it
 abbrev pub Read : Type 0 → Type 0
@@ -21,21 +21,12 @@ Read X = Result (X × List Token) Fault
 
 -- ---- numbers
 
--- a number as it is kept
-abbrev pub fraction : ℕ → ℕ → Num
-fraction n d = record { num = pos n; den = pos d }
-
 abbrev pub is_within : ℕ → ℕ → Bool
 is_within n d = nat_le n 1000000 && (nat_le 1 d && nat_le d 1000)
 
 -- the number that a token writes; where it has no denominator, that is 1
 unfoldable pub number_of : ℕ → Option ℕ → Result Num Fault
 number_of n d = if is_within n (unwrap_or d 1) then Ok (fraction n (unwrap_or d 1)) else Err Number
-
--- with the sign of its term
-abbrev pub signed : Bool → Num → Num
-signed false q = q
-signed true q = record { num = neg_ℤ q.num; den = q.den }
 
 -- ---- names
 

@@ -1,17 +1,11 @@
 -- What stands first among the tokens that are left.
-use Rattle.std.specs.Prelude.{ℕ, List, [], ◌∷◌, Bool, true, false, ◌||◌, codes}
+use Rattle.std.specs.Prelude.{ℕ, List, [], ◌∷◌, Bool, true, false}
 use Rattle.std.specs.Str.{bytes_eq}
 use Rattle.source_text.specs.declared.lexemes.Sign.{Sign}
 use Rattle.source_text.specs.declared.lexemes.Sign.TheVariants.{AtMost, Below, AtLeast, Above, Equal, Assign, Plus, Minus, Times, Open, Close, Dot, At}
 use Rattle.source_text.specs.Tokens.{Token, word, number, sign, wrong}
 use Rattle.condition_syntax.specs.declared.faults.Fault.{Fault}
 use Rattle.condition_syntax.specs.declared.faults.Fault.TheVariants.{WrongByte}
-
--- the words that name nothing
-unfoldable pub is_keyword : List ℕ → Bool
-is_keyword w =
-    bytes_eq w (codes "and") || (bytes_eq w (codes "or") || (bytes_eq w (codes "not")
-    || (bytes_eq w (codes "true") || (bytes_eq w (codes "false") || bytes_eq w (codes "delay")))))
 
 abbrev pub same_sign : Sign → Sign → Bool
 same_sign AtMost AtMost = true

@@ -9,9 +9,7 @@ use Rattle.condition_syntax.specs.declared.conditions.Style.{Style}
 use Rattle.condition_syntax.specs.declared.conditions.Style.TheVariants.{Controller, Question}
 use Rattle.condition_syntax.specs.declared.expressions.Name.{Name}
 use Rattle.condition_syntax.specs.declared.expressions.ETerm.{ETerm}
-use Rattle.condition_syntax.specs.Fronts.{is_keyword}
-use Rattle.condition_syntax.specs.Expressions.{fraction, signed}
-use Rattle.condition_syntax.specs.Conditions.{rel_of}
+use Rattle.condition_syntax.specs.Words.{is_keyword, fraction, signed, rel_of}
 use Rattle.condition_syntax.specs.Trees.{Condition, always, never, comparison, delay, opposite, conjoined, disjoined, comparisons}
 
 -- ---- expressions

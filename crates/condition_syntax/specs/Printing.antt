@@ -6,7 +6,7 @@ use Rattle.weighing.specs.declared.weighings.Rel5.{Rel5}
 use Rattle.weighing.specs.declared.weighings.Rel5.TheVariants.{AtMost, Below, AtLeast, Above, Equal}
 use Rattle.condition_syntax.specs.declared.expressions.Name.{Name}
 use Rattle.condition_syntax.specs.declared.expressions.ETerm.{ETerm}
-use Rattle.condition_syntax.specs.Trees.{Condition, always, never, comparison, delay, opposite, end_of_all, all_of, end_of_any, any_of}
+use Rattle.condition_syntax.specs.Trees.{Condition, always, never, leaf, compares, delayed, opposite, end_of_all, all_of, end_of_any, any_of}
 
 -- ---- expressions
 
@@ -89,8 +89,8 @@ others_if false joint text = joint ++ text
 unfoldable pub condition_text : Condition → List ℕ
 condition_text always = codes "true"
 condition_text never = codes "false"
-condition_text (comparison left rel right) = expr_text left.terms ++ (rel_text rel ++ expr_text right.terms)
-condition_text (delay q) = codes "delay >= " ++ number_text q
+condition_text (leaf (compares left rel right)) = expr_text left.terms ++ (rel_text rel ++ expr_text right.terms)
+condition_text (leaf (delayed q)) = codes "delay >= " ++ number_text q
 condition_text (opposite c) = codes "not " ++ bracketed_if (is_conjunction c || is_disjunction c) (condition_text c)
 condition_text end_of_all = []
 condition_text (all_of c rest) = bracketed_if (is_conjunction c || is_disjunction c) (condition_text c) ++ others_if (is_end rest) (codes " and ") (condition_text rest)

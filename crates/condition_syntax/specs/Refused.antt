@@ -1,5 +1,5 @@
 -- Where a line is refused: the first token at which nothing allowed stands, by the part that is being read.
-use Rattle.std.specs.Prelude.{◌≡◌, ℕ, zero, suc, ◌+◌, ◌<◌, ◌≤◌, List, [], ◌∷◌, ◌++◌, length, ◌⊎◌, Bool, true, false, codes, Option, None, Some, unwrap_or, Ok}
+use Rattle.std.specs.Prelude.{◌≡◌, ℕ, zero, suc, ◌+◌, ◌<◌, ◌≤◌, List, [], ◌∷◌, ◌++◌, length, ◌⊎◌, Bool, true, false, codes, Option, None, Some, unwrap_or}
 use Rattle.source_text.specs.declared.lexemes.Sign.{Sign}
 use Rattle.source_text.specs.declared.lexemes.Sign.TheVariants.{AtLeast, Minus, Times, Open, Close, Dot, At}
 use Rattle.source_text.specs.Tokens.{Token, word, number, sign, wrong}
@@ -10,11 +10,9 @@ use Rattle.condition_syntax.specs.declared.conditions.Style.TheVariants.{Control
 use Rattle.condition_syntax.specs.declared.expressions.ETerm.{ETerm}
 use Rattle.condition_syntax.specs.declared.faults.Fault.{Fault}
 use Rattle.condition_syntax.specs.declared.faults.Fault.TheVariants.{WrongByte, Number, Term, Part, Depth, Count}
-use Rattle.condition_syntax.specs.declared.openings.Opening.TheVariants.{Comparison}
-use Rattle.condition_syntax.specs.Fronts.{is_keyword, stands, blame}
+use Rattle.condition_syntax.specs.Words.{is_keyword, rel_of}
+use Rattle.condition_syntax.specs.Fronts.{stands, says, blame}
 use Rattle.condition_syntax.specs.Trees.{Condition, comparisons}
-use Rattle.condition_syntax.specs.Expressions.{extra_term}
-use Rattle.condition_syntax.specs.Conditions.{rel_of, opening_of, side_begins}
 use Rattle.condition_syntax.specs.Grammar.{IsNumber, IsNameWord, SpellsFlow, SpellsTerm, joint_of, SpellsExpr, Nothing, SpellsConjunction, SpellsJoined, SpellsPart}
 use Rattle.condition_syntax.specs.Ends.{Ending, EndsFlow, EndsExpr, EndsPart, EndsWhole, Free}
 
@@ -23,6 +21,10 @@ use Rattle.condition_syntax.specs.Ends.{Ending, EndsFlow, EndsExpr, EndsPart, En
 -- the denominator is 0, or the number passes a limit
 abbrev pub IsOutside : ℕ → Option ℕ → Type 0
 IsOutside n d = (1000000 < n) ⊎ ((unwrap_or d 1 < 1) ⊎ (1000 < unwrap_or d 1))
+
+-- the number is within the limits
+abbrev pub IsInside : ℕ → Option ℕ → Type 0
+IsInside n d = (q : Num) × IsNumber n d q
 
 -- the word is a keyword, which `own` refuses, or is too long
 abbrev pub NoName : Fault → List ℕ → Fault → Type 0
@@ -51,6 +53,30 @@ SideMissing (word w ∷ tokens) fault = NoName Part w fault
 SideMissing (number n d ∷ tokens) fault = IsOutside n d × (fault ≡ Number)
 SideMissing (sign s ∷ tokens) fault = (stands Minus (sign s ∷ tokens) ≡ false) × (fault ≡ Part)
 SideMissing (wrong ∷ tokens) fault = fault ≡ WrongByte
+
+-- a term begins where no more may stand, or none begins
+abbrev pub TermTooMany : List Token → Fault → Type 0
+TermTooMany [] fault = fault ≡ Term
+TermTooMany (word w ∷ tokens) fault = ((is_keyword w ≡ true) × (fault ≡ Term)) ⊎ ((is_keyword w ≡ false) × (fault ≡ Count))
+TermTooMany (number n d ∷ tokens) fault = (IsOutside n d × (fault ≡ Number)) ⊎ (IsInside n d × (fault ≡ Count))
+TermTooMany (sign s ∷ tokens) fault = fault ≡ Term
+TermTooMany (wrong ∷ tokens) fault = fault ≡ WrongByte
+
+-- a side of a comparison begins
+abbrev pub SideBegins : List Token → Type 0
+SideBegins [] = ⊥
+SideBegins (word w ∷ tokens) = IsNameWord w
+SideBegins (number n d ∷ tokens) = IsInside n d
+SideBegins (sign s ∷ tokens) = s ≡ Minus
+SideBegins (wrong ∷ tokens) = ⊥
+
+-- neither a bracket nor a word that begins another part stands first; `delay` is such a word in a controller
+pub record NoPart (style : Style) (tokens : List Token) : Type 0 where
+  pub no_bracket : stands Open tokens ≡ false
+  pub no_not : says (codes "not") tokens ≡ false
+  pub no_truth : says (codes "true") tokens ≡ false
+  pub no_falsity : says (codes "false") tokens ≡ false
+  pub no_delay : style ≡ Controller → says (codes "delay") tokens ≡ false
 
 -- no digits alone stand first
 abbrev pub NoDigits : List Token → Type 0
@@ -95,7 +121,7 @@ pub data RefusesTerms (style : Style) : ℕ → Bool → List Token → Fault �
   in_first : {room : ℕ} {sg : Bool} {tokens : List Token} {fault : Fault} → RefusesTerm style tokens fault → RefusesTerms style (suc room) sg tokens fault
   in_later : {room : ℕ} {sg next : Bool} {front : List Token} {t : ETerm} {fault : Fault} (left : List Token) → SpellsTerm style sg front t → RefusesTerms style room next left fault
       → RefusesTerms style (suc room) sg (front ++ joint_of next ∷ left) fault
-  one_too_many : {sg : Bool} {tokens : List Token} {fault : Fault} → fault ≡ extra_term tokens → RefusesTerms style zero sg tokens fault
+  one_too_many : {sg : Bool} {tokens : List Token} {fault : Fault} → TermTooMany tokens fault → RefusesTerms style zero sg tokens fault
 
 pub data RefusesExpr (style : Style) : List Token → Fault → Type 0 where
   unsigned_refused : {tokens : List Token} {fault : Fault} → stands Minus tokens ≡ false → RefusesTerms style 16 false tokens fault → RefusesExpr style tokens fault
@@ -104,9 +130,9 @@ pub data RefusesExpr (style : Style) : List Token → Fault → Type 0 where
 -- ---- comparisons and tests of delay, before which so many have begun
 
 pub data RefusesSimple : Style → ℕ → List Token → Fault → Type 0 where
-  in_side : {style : Style} {begun : ℕ} {tokens : List Token} {fault : Fault} → opening_of style tokens ≡ Comparison → SideMissing tokens fault → RefusesSimple style begun tokens fault
-  extra_comparison : {style : Style} {begun : ℕ} {tokens : List Token} → opening_of style tokens ≡ Comparison → side_begins tokens ≡ Ok tt → 16 ≤ begun → RefusesSimple style begun tokens Count
-  in_left : {style : Style} {begun : ℕ} {tokens : List Token} {fault : Fault} → opening_of style tokens ≡ Comparison → side_begins tokens ≡ Ok tt → begun < 16 → RefusesExpr style tokens fault
+  in_side : {style : Style} {begun : ℕ} {tokens : List Token} {fault : Fault} → NoPart style tokens → SideMissing tokens fault → RefusesSimple style begun tokens fault
+  extra_comparison : {style : Style} {begun : ℕ} {tokens : List Token} → SideBegins tokens → 16 ≤ begun → RefusesSimple style begun tokens Count
+  in_left : {style : Style} {begun : ℕ} {tokens : List Token} {fault : Fault} → SideBegins tokens → begun < 16 → RefusesExpr style tokens fault
       → RefusesSimple style begun tokens fault
   at_relation : {style : Style} {begun : ℕ} {front : List Token} {ts : List ETerm} {fault : Fault} (left : List Token) → begun < 16 → (spelled : SpellsExpr style front ts) → EndsExpr style front ts spelled left → NoRel left
       → fault ≡ blame Part left → RefusesSimple style begun (front ++ left) fault

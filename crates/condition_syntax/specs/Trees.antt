@@ -1,5 +1,7 @@
 -- The condition that is written, as a tree of the logic.
-use Rattle.std.specs.Prelude.{ℕ, ◌+◌, List, [], ◌∷◌}
+use Rattle.std.specs.Prelude.{ℕ}
+use Rattle.condition_tree.specs.Trees.{EachLeaf, leaf_count}
+pub use Rattle.condition_tree.specs.Trees.{Tree, always, never, leaf, opposite, end_of_all, all_of, end_of_any, any_of, conjunction, disjunction, conjoined, disjoined}
 use Rattle.weighing.specs.declared.weighings.Rel5.{Rel5}
 use Rattle.weighing.specs.declared.scales.Num.{Num}
 use Rattle.condition_syntax.specs.declared.expressions.Expr.{Expr}
@@ -7,25 +9,19 @@ use Rattle.condition_syntax.specs.declared.conditions.Cond.{Cond}
 use Rattle.condition_syntax.specs.declared.conditions.Cond.TheOpen.{Cond-F}
 use Rattle.condition_syntax.specs.declared.conditions.Cond.TheFolds.{fold-Cond}
 
--- a conjunction is its first part and the conjunction of the others, and so is a disjunction
-pub data Condition : Type 0 where
-  always : Condition
-  never : Condition
-  comparison : Expr → Rel5 → Expr → Condition
-  delay : Num → Condition
-  opposite : Condition → Condition
-  end_of_all : Condition
-  all_of : Condition → Condition → Condition
-  end_of_any : Condition
-  any_of : Condition → Condition → Condition
+-- a comparison of two expressions, or a test of delay by a number of rows
+pub data Leaf (E N : Type 0) : Type 0 where
+  compares : E → Rel5 → E → Leaf E N
+  delayed : N → Leaf E N
 
-abbrev pub conjunction : List Condition → Condition
-conjunction [] = end_of_all
-conjunction (c ∷ cs) = all_of c (conjunction cs)
+abbrev pub Condition : Type 0
+Condition = Tree (Leaf Expr Num)
 
-abbrev pub disjunction : List Condition → Condition
-disjunction [] = end_of_any
-disjunction (c ∷ cs) = any_of c (disjunction cs)
+abbrev pub comparison : Expr → Rel5 → Expr → Condition
+comparison left rel right = leaf (compares left rel right)
+
+abbrev pub delay : Num → Condition
+delay number = leaf (delayed number)
 
 -- one level of a condition, whose parts are already seen as trees
 abbrev pub condition_step : Cond-F Condition → Condition
@@ -41,24 +37,21 @@ abbrev pub condition_of : Cond → Condition
 condition_of = fold-Cond Condition condition_step
 
 -- how many comparisons a condition has; tests of delay count
-abbrev pub comparisons : Condition → ℕ
-comparisons always = 0
-comparisons never = 0
-comparisons (comparison left rel right) = 1
-comparisons (delay number) = 1
-comparisons (opposite c) = comparisons c
-comparisons end_of_all = 0
-comparisons (all_of c rest) = comparisons c + comparisons rest
-comparisons end_of_any = 0
-comparisons (any_of c rest) = comparisons c + comparisons rest
+abbrev pub comparisons : {E N : Type 0} → Tree (Leaf E N) → ℕ
+comparisons c = leaf_count c
 
--- one part alone is the whole
-abbrev pub conjoined : List Condition → Condition
-conjoined [] = end_of_all
-conjoined (c ∷ []) = c
-conjoined (c ∷ d ∷ cs) = conjunction (c ∷ d ∷ cs)
+abbrev pub LeafExprs : {E N : Type 0} → (E → Type 0) → Leaf E N → Type 0
+LeafExprs P (compares left rel right) = P left × P right
+LeafExprs P (delayed number) = Unit {0}
 
-abbrev pub disjoined : List Condition → Condition
-disjoined [] = end_of_any
-disjoined (c ∷ []) = c
-disjoined (c ∷ d ∷ cs) = disjunction (c ∷ d ∷ cs)
+-- each expression is such a one
+abbrev pub EachExpr : {E N : Type 0} → (E → Type 0) → Tree (Leaf E N) → Type 0
+EachExpr P c = EachLeaf (LeafExprs P) c
+
+abbrev pub LeafDelay : {E N : Type 0} → (N → Type 0) → Leaf E N → Type 0
+LeafDelay P (compares left rel right) = Unit {0}
+LeafDelay P (delayed number) = P number
+
+-- each number of a test of delay is such a one
+abbrev pub EachDelay : {E N : Type 0} → (N → Type 0) → Tree (Leaf E N) → Type 0
+EachDelay P c = EachLeaf (LeafDelay P) c

@@ -1,12 +1,13 @@
 //! What stands first among the tokens that are left.
 ghost use Rattle.std.specs.Prelude.{◌≡◌};
-ghost use Rattle.condition_syntax.specs.Fronts.{is_keyword, stands, says, blame};
+ghost use Rattle.condition_syntax.specs.Words.{is_keyword};
+ghost use Rattle.condition_syntax.specs.Fronts.{stands, says, blame};
 
 use crate::faults::Fault;
 use source_text::{Cursor, Lexeme, Sign};
 
 /// Whether the word may name nothing.
-#[tactic(auto, unfolding(crate::specs::Fronts::is_keyword))]
+#[tactic(auto, unfolding(crate::specs::Words::is_keyword))]
 pub(crate) fn is_keyword(word: &[u8]) -> bool
     ensures { result ≡ is_keyword word.now }
 {

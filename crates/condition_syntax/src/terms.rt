@@ -3,7 +3,8 @@ ghost use Rattle.std.specs.Prelude.{◌≡◌, IfOk, MatchResult, Ok, Err};
 ghost use Rattle.weighing.specs.Scaled.{IsNum};
 ghost use Rattle.text_lines.specs.Steps.{Gives};
 ghost use Rattle.condition_syntax.specs.Halts.{GivesRest};
-ghost use Rattle.condition_syntax.specs.Expressions.{number_of, signed, fraction, word_by, digits_by, flow_by, step_by, named_by, name_by, factor_by, single_by, term_by, extra_term, is_within};
+ghost use Rattle.condition_syntax.specs.Words.{signed, fraction};
+ghost use Rattle.condition_syntax.specs.Expressions.{number_of, word_by, digits_by, flow_by, step_by, named_by, name_by, factor_by, single_by, term_by, extra_term, is_within};
 
 use crate::conditions::Style;
 use crate::expressions::{ETerm, Name};

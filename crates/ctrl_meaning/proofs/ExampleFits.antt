@@ -9,12 +9,14 @@ use Rattle.weighing.specs.Scaled.{IsNum, den_of}
 use Rattle.weighing.specs.declared.scales.Num.{Num}
 use Rattle.weighing.specs.declared.weighings.Rel5.{Rel5}
 use Rattle.weighing.specs.declared.weighings.Rel5.TheVariants.{AtLeast}
+use Rattle.run_rows.proofs.Shaped as shaped
+use Rattle.path_server.specs.Shapes.{shape_of}
 use Rattle.run_rows.specs.Runs.{FlowFits, IsEntry, RowFits, row_of}
 use Rattle.run_rows.specs.declared.rows.Run.{Run}
 use Rattle.path_server.specs.Limits.{IsSetting}
 use Rattle.path_server.specs.declared.settings.Setting.{Setting}
-use Rattle.ctrl_types.specs.Limits.{DelaysAre, IsController, IsLin, IsRule, IsSource, LinsAre, NumsAre, OptionalLin, RuleLins, TestDelays, TestLins}
-use Rattle.ctrl_types.specs.Tests.{Test, always, comparison, comparisons, test_of, test_step}
+use Rattle.ctrl_types.specs.Limits.{DelaysAre, IsController, IsLin, IsRule, IsSource, LinsAre, NumsAre, OptionalLin, RuleLins}
+use Rattle.ctrl_types.specs.Tests.{EachExpr, EachDelay, Test, test_of, always, comparison, comparisons, test_step}
 use Rattle.ctrl_types.specs.declared.controllers.Controller.{Controller}
 use Rattle.ctrl_types.specs.declared.controllers.Kind.TheVariants.{Amount}
 use Rattle.ctrl_types.specs.declared.controllers.Rule.{Rule}
@@ -36,7 +38,7 @@ one_of P x here = All-cons P x [] here (All-nil P)
 pub true_test : test_of True ≡ always
 true_test = ap test_of (sym rolls-True) ∙ fold-roll-Gate Test test_step Gate-F.True
 
-cmp_test : (left : Lin) (rel : Rel5) (right : Lin) → test_of (Cmp left rel right) ≡ comparison left rel right
+pub cmp_test : (left : Lin) (rel : Rel5) (right : Lin) → test_of (Cmp left rel right) ≡ comparison left rel right
 cmp_test left rel right =
     ap test_of (sym (rolls-Cmp left rel right)) ∙ fold-roll-Gate Test test_step (Gate-F.Cmp left rel right)
 
@@ -47,12 +49,12 @@ each_rule P one two three =
 
 heard_lins : (Q : Lin → Type 0) (value : ℤ) → Q (single (pos 1) Acked) → Q (single (pos 0) One) → Q (single value One) → RuleLins Q (when_heard value)
 heard_lins Q value acked none set = record {
-  guard = subst (TestLins Q) (sym (cmp_test (single (pos 1) Acked) AtLeast (single (pos 0) One))) (acked, none);
+  guard = subst (EachExpr Q) (sym (cmp_test (single (pos 1) Acked) AtLeast (single (pos 0) One))) (acked, none);
   sets = one_of (OptionalLin Q) (Some (single value One)) set;
 }
 
 otherwise_lins : (Q : Lin → Type 0) → RuleLins Q otherwise
-otherwise_lins Q = record { guard = subst (TestLins Q) (sym true_test) tt; sets = one_of (OptionalLin Q) None tt }
+otherwise_lins Q = record { guard = subst (EachExpr Q) (sym true_test) tt; sets = one_of (OptionalLin Q) None tt }
 
 lins_are : (Q : Lin → Type 0) → Q (single (pos 1) Acked) → Q (single (pos 0) One) → Q (single (pos 3) One) → Q (single (pos 4) One)
     → Q (single (pos 1) (StateSource 0)) → LinsAre Q controller
@@ -81,9 +83,9 @@ nums_are P small =
 
 delays_are : (P : ℕ → Type 0) → DelaysAre P controller
 delays_are P =
-    let heard : (value : ℤ) → TestDelays P (test_of (when_heard value).guard) =
-    λ value. subst (TestDelays P) (sym (cmp_test (single (pos 1) Acked) AtLeast (single (pos 0) One))) tt in
-    each_rule (λ (r : Rule). TestDelays P (test_of r.guard)) (heard (pos 3)) (heard (pos 4)) (subst (TestDelays P) (sym true_test) tt)
+    let heard : (value : ℤ) → EachDelay P (test_of (when_heard value).guard) =
+    λ value. subst (EachDelay P) (sym (cmp_test (single (pos 1) Acked) AtLeast (single (pos 0) One))) tt in
+    each_rule (λ (r : Rule). EachDelay P (test_of r.guard)) (heard (pos 3)) (heard (pos 4)) (subst (EachDelay P) (sym true_test) tt)
 
 heard_rule : (value : ℤ) → IsRule 1 (when_heard value)
 heard_rule value = record {
@@ -130,21 +132,14 @@ setting_in = record {
 }
 
 row_fits : (a s : ℤ) (x : List ℤ) (n : ℕ) → IsEntry a → IsEntry s → length x ≡ n → All IsEntry x → RowFits 1 n (one_flow a s x)
-row_fits a s x n a_in s_in count each = record {
-  w_in = omega arith;
-  flow_count = refl;
-  each_flow = one_of (FlowFits n) (record { a = a; s = s; l = pos 0; x = x })
-      (record { a_in = a_in; s_in = s_in; l_in = omega arith; x_count = count; x_in = each });
-}
+row_fits a s x n a_in s_in count each =
+    shaped.row_fits 1 n (one_flow a s x) (omega arith) refl
+    (one_of (FlowFits n) (record { a = a; s = s; l = pos 0; x = x })
+    (record { shaped = count; bounded = record { a_in = a_in; s_in = s_in; l_in = omega arith; x_in = each } }))
 
 pub run_in : (opens a x : ℤ) → IsEntry opens → IsEntry a → IsEntry x → FitsBoth controller setting (run opens a x)
-run_in opens a x opens_in a_in x_in = record {
-  over_from = omega (arith, ints);
-  over_in = omega arith;
-  credit_in = omega arith;
-  row_count = refl;
-  each_row = row;
-}
+run_in opens a x opens_in a_in x_in =
+    shaped.run_fits (shape_of setting 1 0) (run opens a x) (omega (arith, ints)) (omega arith) (omega arith) refl row
   where
     row : (i : ℕ) → i < 4 → RowFits 1 (if nat_lt i 2 then 0 else 1) (row_of (run opens a x) i)
     row zero inside = row_fits (pos 2) (pos 0) [] 0 (omega arith) (omega arith) refl (All-nil IsEntry)

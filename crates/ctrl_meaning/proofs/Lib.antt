@@ -1,3 +1,4 @@
+pub mod Columns
 pub mod ExampleFits
 pub mod OpeningLaws
 pub mod Questions

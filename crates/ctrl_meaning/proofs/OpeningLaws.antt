@@ -1,10 +1,11 @@
 -- What the answers about the opening row say.
+use Rattle.weighing.specs.Weighed.{times}
 use Rattle.std.proofs.Common.{◌≡◌, ℕ, ℤ, pos, neg_ℤ, ◌+ℤ◌, ◌*ℤ◌, ◌≤ℤ◌, true, false, Option, Some, None, Result, Ok, Err, length, refl, ap, arith}
 use Rattle.std.proofs.lemmas.Int.{ints}
 use Rattle.whole.specs.declared.answers.Stuck.{Stuck}
 use Rattle.whole.proofs.Integers.{neg_ℤ-*ℤ}
 use Rattle.weighing.specs.Asked.{asked}
-use Rattle.weighing.specs.Claim.{Holds}
+use Rattle.weighing.specs.Claim.{all_claims, Holds}
 use Rattle.weighing.proofs.Asking.{first_error, first_wanted, none_wanted}
 use Rattle.weighing.proofs.Claims.{outcome_says}
 use Rattle.run_rows.specs.Runs.{state_of}
@@ -14,7 +15,7 @@ use Rattle.path_server.specs.declared.settings.Setting.{Setting}
 use Rattle.ctrl_types.specs.declared.controllers.Controller.{Controller}
 use Rattle.ctrl_types.specs.declared.controllers.State.{State}
 use Rattle.ctrl_meaning.specs.Meaning.{IsFirstOut, IsInRange, IsStuckInOpening, OpensInRange, OpensWithin}
-use Rattle.ctrl_meaning.specs.Opening.{declared_state, opening, opening_answer, opening_row, range_claim, state_in_range}
+use Rattle.ctrl_meaning.specs.Opening.{declared_state, opening, opening_answer, opening_row, range_claims, state_in_range}
 use Rattle.ctrl_meaning.specs.declared.opening.OpeningHolds.{OpeningHolds}
 use Rattle.ctrl_meaning.specs.declared.opening.OpeningHolds.TheVariants.{Yes, State as Differs, Wide}
 
@@ -24,7 +25,7 @@ from_means d x n o = let turned = neg_ℤ-*ℤ n o in (λ h. omega (arith, ints)
 to_means : (d x n o : ℤ) → Means ((d *ℤ x +ℤ (neg_ℤ n *ℤ o +ℤ pos 0)) ≤ℤ pos 0) ((d *ℤ x) ≤ℤ (n *ℤ o))
 to_means d x n o = let turned = neg_ℤ-*ℤ n o in (λ h. omega (arith, ints), λ h. omega (arith, ints))
 
-range_means : (s : State) (x over : ℤ) → Means (Holds (range_claim s x over)) (IsInRange s x over)
+range_means : (s : State) (x over : ℤ) → Means (Holds (all_claims (range_claims times s x over))) (IsInRange s x over)
 range_means s x over =
     let low = from_means s.lo.den x s.lo.num over in
     let high = to_means s.hi.den x s.hi.num over in
@@ -33,12 +34,12 @@ range_means s x over =
 in_range : (c : Controller) (s : Setting) (r : Run) (flow j : ℕ) → state_in_range c r (opening_row c s) flow j ≡ Ok true → OpensInRange c s r flow j
 in_range c s r flow j is =
     (range_means (declared_state c j) (state_of r (opening_row c s) flow j) r.over).0
-    (outcome_says (opening_row c s) (range_claim (declared_state c j) (state_of r (opening_row c s) flow j) r.over) true is)
+    (outcome_says (opening_row c s) (all_claims (range_claims times (declared_state c j) (state_of r (opening_row c s) flow j) r.over)) true is)
 
 out_of_range : (c : Controller) (s : Setting) (r : Run) (flow j : ℕ) → state_in_range c r (opening_row c s) flow j ≡ Ok false
     → OpensInRange c s r flow j → ⊥
 out_of_range c s r flow j is within =
-    outcome_says (opening_row c s) (range_claim (declared_state c j) (state_of r (opening_row c s) flow j) r.over) false is
+    outcome_says (opening_row c s) (all_claims (range_claims times (declared_state c j) (state_of r (opening_row c s) flow j) r.over)) false is
     ((range_means (declared_state c j) (state_of r (opening_row c s) flow j) r.over).1 within)
 
 yes_found : (t : Result (Option ℕ) Stuck) → opening_answer t ≡ Yes → t ≡ Ok None

@@ -1,9 +1,11 @@
 -- What the code asks of a state or a guard is what the definitions ask.
+use Rattle.weighing.specs.Weighed.{times}
+use Rattle.claims.specs.Subjects.{in_run}
 use Rattle.std.proofs.Common.{◌≡◌, ℕ, ◌-◌, ◌<◌, ◌≤◌, ℤ, Bool, true, Option, Some, None, Result, Ok, Err, List, get_or, length, refl, ◌∙◌, ap, arith}
 use Rattle.std.proofs.lemmas.List.{get_or_default, get_or_read}
 use Rattle.whole.specs.declared.answers.Stuck.{Stuck}
 use Rattle.weighing.specs.Asked.{asked}
-use Rattle.weighing.specs.Claim.{outcome}
+use Rattle.weighing.specs.Claim.{all_claims, outcome}
 use Rattle.weighing.proofs.Asking.{first_wanted}
 use Rattle.run_rows.specs.Runs.{IsEntry, state_of}
 use Rattle.run_rows.specs.declared.rows.Run.{Run}
@@ -14,7 +16,7 @@ use Rattle.ctrl_types.specs.declared.controllers.Rule.{Rule}
 use Rattle.ctrl_types.specs.declared.controllers.State.{State}
 use Rattle.ctrl_types.specs.declared.expressions.Lin.{Lin}
 use Rattle.ctrl_meaning.specs.Guards.{test_claim}
-use Rattle.ctrl_meaning.specs.Opening.{declared_state, no_state, range_claim, state_in_range}
+use Rattle.ctrl_meaning.specs.Opening.{declared_state, no_state, range_claims, state_in_range}
 use Rattle.ctrl_meaning.specs.Steps.{fired, firing, guard_outcome, set_claim, set_outcome}
 use Rattle.ctrl_meaning.specs.declared.readings.Reading.{Reading}
 use Rattle.ctrl_meaning.proofs.Sums.{entry_is, given}
@@ -25,18 +27,18 @@ read_of xs ys k x d same inside is = get_or_read xs k x inside is d ∙ ap (λ z
 
 pub range_asked : (c : Controller) (r : Run) (row flow k : ℕ) (ss : List State) (s : State) (x : ℤ) (t : Result Bool Stuck)
     → ss ≡ c.states → k < length ss → s ≡ get_or ss k s → IsEntry x → x ≡ state_of r row flow k → IsEntry r.over
-    → t ≡ outcome row (range_claim s (given x) (given r.over)) → t ≡ state_in_range c r row flow k
+    → t ≡ outcome row (all_claims (range_claims times s (given x) (given r.over))) → t ≡ state_in_range c r row flow k
 range_asked c r row flow k ss s x t same inside is small value over asks =
     asks
-    ∙ ap (λ a. outcome row (range_claim a (given x) (given r.over))) (read_of ss c.states k s no_state same inside is)
-    ∙ ap (λ a. outcome row (range_claim (declared_state c k) a (given r.over))) (entry_is x (state_of r row flow k) small value)
-    ∙ ap (λ a. outcome row (range_claim (declared_state c k) (state_of r row flow k) a)) (entry_is r.over r.over over refl)
+    ∙ ap (λ a. outcome row (all_claims (range_claims times a (given x) (given r.over)))) (read_of ss c.states k s no_state same inside is)
+    ∙ ap (λ a. outcome row (all_claims (range_claims times (declared_state c k) a (given r.over)))) (entry_is x (state_of r row flow k) small value)
+    ∙ ap (λ a. outcome row (all_claims (range_claims times (declared_state c k) (state_of r row flow k) a))) (entry_is r.over r.over over refl)
 
 pub guard_asked : (c : Controller) (r : Run) (at : Reading) (k : ℕ) (rs : List Rule) (d : Rule) (t : Result Bool Stuck)
-    → rs ≡ c.rules → k < length rs → t ≡ outcome at.row (test_claim r at (test_of (get_or rs k d).guard)) → t ≡ guard_outcome c r at k
+    → rs ≡ c.rules → k < length rs → t ≡ outcome at.row (test_claim (in_run r) at (test_of (get_or rs k d).guard)) → t ≡ guard_outcome c r at k
 guard_asked c r at k rs d t same inside asks =
     asks
-    ∙ ap (λ (a : Rule). outcome at.row (test_claim r at (test_of a.guard)))
+    ∙ ap (λ (a : Rule). outcome at.row (test_claim (in_run r) at (test_of a.guard)))
     (get_or_default rs k d no_rule inside ∙ ap (λ zs. get_or zs k no_rule) same)
 
 pub sets_are : (c : Controller) (k : ℕ) (rs : List Rule) (d : Rule) (sets : List (Option Lin))
@@ -46,9 +48,9 @@ sets_are c k rs d sets same inside is =
 
 pub set_asked : (c : Controller) (r : Run) (at : Reading) (k j : ℕ) (rs : List Rule) (d : Rule) (sets : List (Option Lin)) (set : Option Lin)
     (t : Result Bool Stuck) → rs ≡ c.rules → k < length rs → sets ≡ (get_or rs k d).sets → j < length sets → set ≡ get_or sets j set
-    → t ≡ outcome at.row (set_claim r at j set) → t ≡ set_outcome c r at k j
+    → t ≡ outcome at.row (set_claim (in_run r) at j set) → t ≡ set_outcome c r at k j
 set_asked c r at k j rs d sets set t same inside is among here asks =
-    asks ∙ ap (λ a. outcome at.row (set_claim r at j a)) (read_of sets (rule_of c k).sets j set None (sets_are c k rs d sets same inside is) among here)
+    asks ∙ ap (λ a. outcome at.row (set_claim (in_run r) at j a)) (read_of sets (rule_of c k).sets j set None (sets_are c k rs d sets same inside is) among here)
 
 fired_among : (last n k : ℕ) (q : ℕ → Result Bool Stuck) (found : Result (Option ℕ) Stuck) → last < n
     → asked true q n ≡ found → firing last found ≡ Ok k → k < n

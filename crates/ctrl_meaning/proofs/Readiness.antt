@@ -8,19 +8,19 @@ use Rattle.std.proofs.lemmas.Nat.Gcd.{le_of_dvd}
 use Rattle.std.proofs.lemmas.List.Elements.{All-head, All-tail}
 use Rattle.std.proofs.Math.Nat.{one-dvd}
 use Rattle.weighing.specs.Scaled.{IsNum, den_of}
-use Rattle.run_rows.specs.Runs.{FlowFits, IsRun, flow_of, no_flow, state_count}
+use Rattle.run_rows.specs.Runs.{IsRun, flow_of, no_flow, state_count}
 use Rattle.run_rows.specs.declared.rows.Run.{Run}
 use Rattle.path_server.specs.Limits.{IsSetting}
 use Rattle.path_server.specs.Shapes.{shape_of}
 use Rattle.path_server.specs.declared.settings.Setting.{Setting}
-use Rattle.ctrl_types.specs.Limits.{IsController, IsLin, IsSource, OptionalLin, TestDelays, TestLins, no_rule, rule_of}
-use Rattle.ctrl_types.specs.Tests.{Test, always, never, comparison, delay, opposite, end_of_all, all_of, end_of_any, any_of, test_of}
+use Rattle.ctrl_types.specs.Limits.{IsController, IsLin, IsSource, OptionalLin, no_rule, rule_of}
+use Rattle.ctrl_types.specs.Tests.{EachExpr, EachDelay, Test, end_of_all, all_of, test_of, always, leaf, compares, never, end_of_any, any_of, opposite, delayed}
 use Rattle.ctrl_types.specs.declared.controllers.Controller.{Controller}
 use Rattle.ctrl_types.specs.declared.expressions.Lin.{Lin}
 use Rattle.ctrl_types.specs.declared.expressions.LinTerm.{LinTerm}
 use Rattle.ctrl_meaning.specs.Expressions.{AreTerms, scale_of_two, scale_with}
 use Rattle.ctrl_meaning.specs.Guards.{CanWeigh}
-use Rattle.ctrl_meaning.specs.Limits.{CanSend, CanStep, CanSum, FitsBoth, IsControlled}
+use Rattle.ctrl_meaning.specs.Limits.{CanSend, CanStep, CanSum, FitsBoth, HasShape, IsControlled}
 use Rattle.ctrl_meaning.specs.Readings.{IsReading, reading, states_at}
 use Rattle.ctrl_meaning.specs.Steps.{sending, set_of, stepping}
 use Rattle.ctrl_meaning.specs.declared.readings.Reading.{Reading}
@@ -54,13 +54,13 @@ lin_ready r at n d lin same is nums dens = record {
   scaled = are_scaled d lin.terms nums dens;
 }
 
-pub test_ready : (r : Run) (at : Reading) (n d : ℕ) (t : Test) → states_at r at ≡ n → TestLins (IsLin n) t → TestLins HasNums t → TestLins (HasDens d) t
-    → TestLins (IsReady r at d) t
+pub test_ready : (r : Run) (at : Reading) (n d : ℕ) (t : Test) → states_at r at ≡ n → EachExpr (IsLin n) t → EachExpr HasNums t → EachExpr (HasDens d) t
+    → EachExpr (IsReady r at d) t
 test_ready r at n d always same is nums dens = tt
 test_ready r at n d never same is nums dens = tt
-test_ready r at n d (comparison left rel right) same is nums dens =
+test_ready r at n d (leaf (compares left rel right)) same is nums dens =
     (lin_ready r at n d left same is.0 nums.0 dens.0, lin_ready r at n d right same is.1 nums.1 dens.1)
-test_ready r at n d (delay k) same is nums dens = tt
+test_ready r at n d (leaf (delayed k)) same is nums dens = tt
 test_ready r at n d (opposite t) same is nums dens = test_ready r at n d t same is nums dens
 test_ready r at n d end_of_all same is nums dens = tt
 test_ready r at n d (all_of t rest) same is nums dens =
@@ -89,12 +89,12 @@ at_most : (m d : ℕ) → 0 < d → d ≤ 1000000 → m ∣ d → m ≤ 1000000
 at_most m d some small divides = omega (arith, le_of_dvd some divides)
 
 can_weigh : (r : Run) (at : Reading) (d most : ℕ) (t : Test) → 0 < d → d ≤ 1000000 → most ≤ at.heard
-    → TestLins (IsReady r at d) t → TestDelays (λ k. k ≤ most) t → CanWeigh r at t
+    → EachExpr (IsReady r at d) t → EachDelay (λ k. k ≤ most) t → CanWeigh r at t
 can_weigh r at d most always some small back ready delays = tt
 can_weigh r at d most never some small back ready delays = tt
-can_weigh r at d most (comparison left rel right) some small back ready delays =
+can_weigh r at d most (leaf (compares left rel right)) some small back ready delays =
     (ready.0.terms_in, ready.1.terms_in, at_most (scale_of_two left right) d some small (two_divide r at d left right ready.0 ready.1))
-can_weigh r at d most (delay k) some small back ready delays = omega (arith, delays)
+can_weigh r at d most (leaf (delayed k)) some small back ready delays = omega (arith, delays)
 can_weigh r at d most (opposite t) some small back ready delays = can_weigh r at d most t some small back ready delays
 can_weigh r at d most end_of_all some small back ready delays = tt
 can_weigh r at d most (all_of t rest) some small back ready delays =
@@ -137,16 +137,14 @@ not_less : (a b : ℕ) → b ≤ a → nat_lt a b ≡ false
 not_less a b most = grind (arith, nat_tests, most)
 
 -- on the opening row and later each flow has the controller's states
-pub states_stand : (c : Controller) (s : Setting) (r : Run) (i flow : ℕ) → FitsBoth c s r → 1 ≤ flow → flow ≤ s.flows
+pub states_stand : (c : Controller) (s : Setting) (r : Run) (i flow : ℕ) → HasShape c s r → 1 ≤ flow → flow ≤ s.flows
     → (shape_of s (length c.states) c.delay_max).h ≤ i → i < length r.rows → length (flow_of r i flow).x ≡ length c.states
 states_stand c s r i flow fits from to later inside =
     let shape = shape_of s (length c.states) c.delay_max in
     let row = fits.each_row i inside in
-    let mine : FlowFits (state_count shape i) (flow_of r i flow) =
-    row.each_flow (flow - 1) no_flow (let count = row.flow_count in omega arith) in
-    mine.x_count ∙ ap (λ b. if b then 0 else length c.states) (not_less i shape.h later)
+    row.each_flow (flow - 1) no_flow (let count = row.flow_count in omega arith) ∙ ap (λ b. if b then 0 else length c.states) (not_less i shape.h later)
 
-pub is_reading : (c : Controller) (s : Setting) (r : Run) (row flow states : ℕ) → IsSetting s → FitsBoth c s r → IsControlled c s row
+pub is_reading : (c : Controller) (s : Setting) (r : Run) (row flow states : ℕ) → IsSetting s → HasShape c s r → IsControlled c s row
     → 1 ≤ flow → flow ≤ s.flows → states ≤ row → IsReading r (reading row flow states (row - s.rtt))
 is_reading c s r row flow states set fits controlled from to within =
     let rows = fits.row_count in
@@ -165,7 +163,7 @@ is_reading c s r row flow states set fits controlled from to within =
 
 -- what a step's weighing takes
 pub record IsStepReady (c : Controller) (r : Run) (at : Reading) : Type 0 where
-  pub guards : (k : ℕ) → k < length c.rules → TestLins (IsReady r at (unsigned_abs c.den)) (test_of (rule_of c k).guard)
+  pub guards : (k : ℕ) → k < length c.rules → EachExpr (IsReady r at (unsigned_abs c.den)) (test_of (rule_of c k).guard)
   pub sets : (k j : ℕ) → k < length c.rules → j < length c.states → OptionalLin (IsReady r at (unsigned_abs c.den)) (set_of c k j)
   pub window : IsReady r at (unsigned_abs c.den) c.window
   pub rate : OptionalLin (IsReady r at (unsigned_abs c.den)) c.rate
@@ -192,14 +190,14 @@ can_step c s r row flow is set fits controlled from to =
     let at : Reading = stepping s row flow in
     let after = controlled.after_opening in
     let last = controlled.within in
-    let rows = fits.row_count in
+    let rows = fits.shaped.row_count in
     let before : length (flow_of r (row - 1) flow).x ≡ length c.states =
-    states_stand c s r (row - 1) flow fits from to (omega arith) (omega arith) in
+    states_stand c s r (row - 1) flow fits.shaped from to (omega arith) (omega arith) in
     let ready = step_ready c r at is before in
     let den = has_den c is in
     record {
       run_in = is_run c s r is set fits;
-      at_in = is_reading c s r row flow (row - 1) set fits controlled from to (omega arith);
+      at_in = is_reading c s r row flow (row - 1) set fits.shaped controlled from to (omega arith);
       states_to = is.states_to;
       rules_from = is.rules_from;
       rules_to = is.rules_to;
@@ -209,7 +207,7 @@ can_step c s r row flow is set fits controlled from to =
       places = λ k inside. (is.each_rule k no_rule inside).places;
       sets = λ k j inside among. can_sum r at (unsigned_abs c.den) (set_of c k j) den.some den.small (ready.sets k j inside among);
       states_before = before;
-      states_here = states_stand c s r row flow fits from to (omega arith) (omega arith);
+      states_here = states_stand c s r row flow fits.shaped from to (omega arith) (omega arith);
     }
 
 pub can_send : (c : Controller) (s : Setting) (r : Run) (row flow : ℕ) → IsController c → IsSetting s → FitsBoth c s r → IsControlled c s row
@@ -218,13 +216,13 @@ can_send c s r row flow is set fits controlled from to =
     let at : Reading = sending s row flow in
     let after = controlled.after_opening in
     let last = controlled.within in
-    let rows = fits.row_count in
-    let here : length (flow_of r row flow).x ≡ length c.states = states_stand c s r row flow fits from to (omega arith) (omega arith) in
+    let rows = fits.shaped.row_count in
+    let here : length (flow_of r row flow).x ≡ length c.states = states_stand c s r row flow fits.shaped from to (omega arith) (omega arith) in
     let ready = step_ready c r at is here in
     let den = has_den c is in
     record {
       run_in = is_run c s r is set fits;
-      at_in = is_reading c s r row flow row set fits controlled from to (omega arith);
+      at_in = is_reading c s r row flow row set fits.shaped controlled from to (omega arith);
       window_in = can_sum r at (unsigned_abs c.den) (Some c.window) den.some den.small ready.window;
       rate_in = can_sum r at (unsigned_abs c.den) c.rate den.some den.small ready.rate;
     }

@@ -1,4 +1,5 @@
 -- What a controller claims of a run depends on the controller only as it is seen.
+use Rattle.claims.specs.Subjects.{in_run}
 use Rattle.std.proofs.Common.{◌≡◌, ℕ, ◌-◌, true, false, Bool, None, [], Result, length, get_or, refl, sym, ◌∙◌, ap}
 use Rattle.std.proofs.Math.ListN.{get_or-map, length-map}
 use Rattle.std.proofs.Math.Path.{fun_ext}
@@ -40,10 +41,10 @@ module _ (c d : Controller) (same : controller_seen c ≡ controller_seen d) whe
   count_same = sym (rule_count c) ∙ ap (λ (x : SeenController). length x.rules) same ∙ rule_count d
 
   guards_same : (r : Run) (at : Reading) → guard_outcome c r at ≡ guard_outcome d r at
-  guards_same r at = ap (λ (rules : ℕ → SeenRule). λ k. outcome at.row (test_claim r at (rules k).guard)) rules_same
+  guards_same r at = ap (λ (rules : ℕ → SeenRule). λ k. outcome at.row (test_claim (in_run r) at (rules k).guard)) rules_same
 
   sets_same : (r : Run) (at : Reading) (k : ℕ) → set_outcome c r at k ≡ set_outcome d r at k
-  sets_same r at k = ap (λ (rules : ℕ → SeenRule). λ j. outcome at.row (set_claim r at j (get_or (rules k).sets j None))) rules_same
+  sets_same r at k = ap (λ (rules : ℕ → SeenRule). λ j. outcome at.row (set_claim (in_run r) at j (get_or (rules k).sets j None))) rules_same
 
   fired_same : (r : Run) (at : Reading) → fired c r at ≡ fired d r at
   unfolding fired

@@ -1,4 +1,5 @@
 -- What is claimed of the arrivals holds exactly where they are the greater, or with a rate the lesser, of what is allowed.
+use Rattle.claims.specs.Subjects.{in_run}
 use Rattle.std.proofs.Common.{◌≡◌, ℕ, ◌-◌, ◌/◌, ◌<◌, ℤ, pos, negsuc, neg_ℤ, ◌+ℤ◌, ◌-ℤ◌, ◌*ℤ◌, ◌≤ℤ◌, ◌<ℤ◌, ◌⊎◌, inl, inr, Bool, true, false, Option, Some, None, refl, ◌∙◌, ap, arith}
 use Rattle.std.specs.Prelude.{int_le, if◌then◌else◌}
 use Rattle.std.proofs.lemmas.Int.{ints}
@@ -157,7 +158,7 @@ spread d a b v =
     let split = *ℤ-+ℤ d a (neg_ℤ b) in omega (arith, ints)
 
 window_value : (r : Run) (at : Reading) (d : ℕ) (lin : Lin) → 0 < d → IsReady r at d lin
-    → pos (d / scale_with 1 lin.terms) *ℤ total (window_terms r at lin)
+    → pos (d / scale_with 1 lin.terms) *ℤ total (window_terms (in_run r) at lin)
     ≡ pos d *ℤ arrived r at.row at.flow
     -ℤ (pos d *ℤ (served r at.heard at.flow +ℤ lost r at.heard at.flow) +ℤ value r at d lin.terms)
 window_value r at d lin some ready =
@@ -165,25 +166,25 @@ window_value r at d lin some ready =
     let a : ℤ = arrived r at.row at.flow in
     let s : ℤ = served r at.heard at.flow in
     let l : ℤ = lost r at.heard at.flow in
-    ap (λ z. pos (d / m) *ℤ z) (two_off (pos m) a s l (total (lin_terms r at Right m lin.terms)))
+    ap (λ z. pos (d / m) *ℤ z) (two_off (pos m) a s l (total (lin_terms (in_run r) at Right m lin.terms)))
     ∙ over_value r at d lin (a -ℤ (s +ℤ l)) some ready
     ∙ spread (pos d) a (s +ℤ l) (value r at d lin.terms)
 
 rate_value : (r : Run) (at : Reading) (d : ℕ) (lin : Lin) → 0 < d → IsReady r at d lin
-    → pos (d / scale_with 1 lin.terms) *ℤ total (rate_terms r at lin)
+    → pos (d / scale_with 1 lin.terms) *ℤ total (rate_terms (in_run r) at lin)
     ≡ pos d *ℤ arrived r at.row at.flow -ℤ (pos d *ℤ arrived r (at.row - 1) at.flow +ℤ value r at d lin.terms)
 rate_value r at d lin some ready =
     let m : ℕ = scale_with 1 lin.terms in
     let a : ℤ = arrived r at.row at.flow in
     let b : ℤ = arrived r (at.row - 1) at.flow in
-    ap (λ z. pos (d / m) *ℤ z) (one_off (pos m) a b (total (lin_terms r at Right m lin.terms)))
+    ap (λ z. pos (d / m) *ℤ z) (one_off (pos m) a b (total (lin_terms (in_run r) at Right m lin.terms)))
     ∙ over_value r at d lin (a -ℤ b) some ready
     ∙ spread (pos d) a b (value r at d lin.terms)
 
 -- the claim on the arrivals holds exactly where they are what is allowed
 pub send_means : (r : Run) (at : Reading) (d : ℕ) (window : Lin) (rate : Option Lin) → 0 < d → IsReady r at d window
     → OptionalLin (IsReady r at d) rate
-    → Means (Holds (send_claim r at window rate)) (pos d *ℤ arrived r at.row at.flow ≡ allowed r at d window rate)
+    → Means (Holds (send_claim (in_run r) at window rate)) (pos d *ℤ arrived r at.row at.flow ≡ allowed r at d window rate)
 send_means r at d window None some ready paced =
     let x : ℤ = pos d *ℤ arrived r at.row at.flow in
     let y : ℤ = pos d *ℤ arrived r (at.row - 1) at.flow in
@@ -193,9 +194,9 @@ send_means r at d window None some ready paced =
     let k : ℤ = pos (d / scale_with 1 window.terms) in
     let positive : pos 0 <ℤ pos d = omega (arith, ints) in
     let factor = (factor_of d (scale_with 1 window.terms) some (one_divides r at d window ready)).some in
-    let t : ℤ = total (growth_terms r at) in
-    let u : ℤ = total (window_terms r at window) in
-    then_means (Holds (send_claim r at window None)) ((y ≤ℤ x) × ((w ≤ℤ x) × ((x ≤ℤ y) ⊎ (x ≤ℤ w)))) (x ≡ greater y w)
+    let t : ℤ = total (growth_terms (in_run r) at) in
+    let u : ℤ = total (window_terms (in_run r) at window) in
+    then_means (Holds (send_claim (in_run r) at window None)) ((y ≤ℤ x) × ((w ≤ℤ x) × ((x ≤ℤ y) ⊎ (x ≤ℤ w)))) (x ≡ greater y w)
     (both_mean (Stands AtLeast t) (y ≤ℤ x) (Stands AtLeast u × (Stands AtMost t ⊎ Stands AtMost u)) ((w ≤ℤ x) × ((x ≤ℤ y) ⊎ (x ≤ℤ w)))
     (stands_means AtLeast (pos d) t x y positive growth)
     (both_mean (Stands AtLeast u) (w ≤ℤ x) (Stands AtMost t ⊎ Stands AtMost u) ((x ≤ℤ y) ⊎ (x ≤ℤ w))
@@ -217,16 +218,16 @@ send_means r at d window (Some rate) some ready paced =
     let positive : pos 0 <ℤ pos d = omega (arith, ints) in
     let factor = (factor_of d (scale_with 1 window.terms) some (one_divides r at d window ready)).some in
     let factor' = (factor_of d (scale_with 1 rate.terms) some (one_divides r at d rate paced)).some in
-    let t : ℤ = total (growth_terms r at) in
-    let u : ℤ = total (window_terms r at window) in
-    let s : ℤ = total (rate_terms r at rate) in
+    let t : ℤ = total (growth_terms (in_run r) at) in
+    let u : ℤ = total (window_terms (in_run r) at window) in
+    let s : ℤ = total (rate_terms (in_run r) at rate) in
     let from_growth = stands_means AtLeast (pos d) t x y positive growth in
     let to_growth = stands_means AtMost (pos d) t x y positive growth in
     let from_window = stands_means AtLeast k u x w factor over in
     let to_window = stands_means AtMost k u x w factor over in
     let from_rate = stands_means AtLeast j s x z factor' faster in
     let to_rate = stands_means AtMost j s x z factor' faster in
-    then_means (Holds (send_claim r at window (Some rate)))
+    then_means (Holds (send_claim (in_run r) at window (Some rate)))
     (((x ≤ℤ y) ⊎ (x ≤ℤ w)) × (((x ≤ℤ y) ⊎ (x ≤ℤ z)) × (((y ≤ℤ x) × (w ≤ℤ x)) ⊎ ((y ≤ℤ x) × (z ≤ℤ x)))))
     (x ≡ lesser (greater y w) (y +ℤ greater v (pos 0)))
     (both_mean (Stands AtMost t ⊎ Stands AtMost u) ((x ≤ℤ y) ⊎ (x ≤ℤ w))

@@ -1,4 +1,5 @@
 -- What the answers about the opening row and about a step say.
+use Rattle.claims.specs.Subjects.{in_run}
 use Rattle.std.proofs.Common.{◌≡◌, ℕ, ◌-◌, ◌<◌, ◌≤◌, ◌⊎◌, inl, inr, Bool, true, false, Option, Some, None, Result, Ok, Err, length, refl, sym, ◌∙◌, ap, subst, arith}
 use Rattle.std.proofs.lemmas.Bool.{cases_lt}
 use Rattle.whole.specs.declared.answers.Stuck.{Stuck}
@@ -33,17 +34,17 @@ fails_of : (row : ℕ) (c : Claim) (P : Type 0) → Means (Holds c) P → outcom
 fails_of row c P means is p = outcome_says row c false is (means.1 p)
 
 guard_means : (c : Controller) (r : Run) (at : Reading) (k : ℕ) → 0 < den_of_all c → IsStepReady c r at → k < length c.rules
-    → Means (Holds (test_claim r at (test_of (rule_of c k).guard))) (GuardHolds c r at k)
+    → Means (Holds (test_claim (in_run r) at (test_of (rule_of c k).guard))) (GuardHolds c r at k)
 guard_means c r at k some ready inside = test_means r at (den_of_all c) (test_of (rule_of c k).guard) some (ready.guards k inside)
 
 state_means : (c : Controller) (r : Run) (at : Reading) (k j : ℕ) → 0 < den_of_all c → IsStepReady c r at → k < length c.rules
-    → j < length c.states → Means (Holds (set_claim r at j (set_of c k j))) (StateAgrees c r at k j)
+    → j < length c.states → Means (Holds (set_claim (in_run r) at j (set_of c k j))) (StateAgrees c r at k j)
 state_means c r at k j some ready inside among = set_means r at (den_of_all c) j (set_of c k j) some (ready.sets k j inside among)
 
 -- the last guard is always true
 last_holds : (c : Controller) (r : Run) (at : Reading) → test_of (rule_of c (length c.rules - 1)).guard ≡ always
     → guard_outcome c r at (length c.rules - 1) ≡ Ok true
-last_holds c r at otherwise = ap (λ t. outcome at.row (test_claim r at t)) otherwise
+last_holds c r at otherwise = ap (λ t. outcome at.row (test_claim (in_run r) at t)) otherwise
 
 fires_found : (c : Controller) (r : Run) (at : Reading) (k : ℕ) (found : Result (Option ℕ) Stuck) → IsController c → 0 < den_of_all c
     → IsStepReady c r at → asked true (guard_outcome c r at) (length c.rules) ≡ found → firing (length c.rules - 1) found ≡ Ok k → Fires c r at k
@@ -63,11 +64,11 @@ fires_found c r at k (Ok (Some j)) is some ready asks fires =
         let inside = one.within in
         record {
           within = one.within;
-          holds = holds_of at.row (test_claim r at (test_of (rule_of c j).guard)) (GuardHolds c r at j)
+          holds = holds_of at.row (test_claim (in_run r) at (test_of (rule_of c j).guard)) (GuardHolds c r at j)
               (guard_means c r at j some ready one.within) one.here;
           least = λ i less.
               let among : i < length c.rules = omega arith in
-              fails_of at.row (test_claim r at (test_of (rule_of c i).guard)) (GuardHolds c r at i)
+              fails_of at.row (test_claim (in_run r) at (test_of (rule_of c i).guard)) (GuardHolds c r at i)
               (guard_means c r at i some ready among) (one.before i less);
         }
 
@@ -85,7 +86,7 @@ unfolding differing
 agrees_law c r at k some ready fires none = record {
   fires = fires;
   agrees = λ j among.
-      holds_of at.row (set_claim r at j (set_of c k j)) (StateAgrees c r at k j) (state_means c r at k j some ready fires.within among)
+      holds_of at.row (set_claim (in_run r) at j (set_of c k j)) (StateAgrees c r at k j) (state_means c r at k j some ready fires.within among)
       (none_wanted false (set_outcome c r at k) (length c.states) none j among);
 }
 
@@ -102,9 +103,9 @@ differs_law c r at k j some ready fires found =
       within = one.within;
       before = λ i less.
           let among : i < length c.states = omega arith in
-          holds_of at.row (set_claim r at i (set_of c k i)) (StateAgrees c r at k i) (state_means c r at k i some ready fires.within among)
+          holds_of at.row (set_claim (in_run r) at i (set_of c k i)) (StateAgrees c r at k i) (state_means c r at k i some ready fires.within among)
           (one.before i less);
-      differs = fails_of at.row (set_claim r at j (set_of c k j)) (StateAgrees c r at k j)
+      differs = fails_of at.row (set_claim (in_run r) at j (set_of c k j)) (StateAgrees c r at k j)
           (state_means c r at k j some ready fires.within one.within) one.here;
     }
 
@@ -130,14 +131,14 @@ guards_stuck_law c r at stuck found =
 pub sends_law : (c : Controller) (r : Run) (at : Reading) → 0 < den_of_all c → IsStepReady c r at → sent c r at ≡ Ok true → Sends c r at
 unfolding sent
 sends_law c r at some ready is =
-    holds_of at.row (send_claim r at c.window c.rate) (Sends c r at)
+    holds_of at.row (send_claim (in_run r) at c.window c.rate) (Sends c r at)
     (send_means r at (den_of_all c) c.window c.rate some ready.window ready.rate) is
 
 pub not_sends_law : (c : Controller) (r : Run) (at : Reading) → 0 < den_of_all c → IsStepReady c r at → sent c r at ≡ Ok false
     → Sends c r at → ⊥
 unfolding sent
 not_sends_law c r at some ready is =
-    fails_of at.row (send_claim r at c.window c.rate) (Sends c r at)
+    fails_of at.row (send_claim (in_run r) at c.window c.rate) (Sends c r at)
     (send_means r at (den_of_all c) c.window c.rate some ready.window ready.rate) is
 
 -- ---- the parts of an answer

@@ -1,4 +1,5 @@
 -- Sums of expressions, one term after another and one side after the other.
+use Rattle.claims.specs.Subjects.{in_run}
 use Rattle.std.proofs.Common.{◌≡◌, ℕ, ◌+◌, ◌<◌, ◌≤◌, ℤ, unsigned_abs, List, ◌++◌, get_or, length, drop, sym, ◌∙◌, ap, arith, to_z, of_z}
 use Rattle.std.specs.List.{flat_map}
 use Rattle.std.proofs.lemmas.List.{drop_more}
@@ -38,11 +39,11 @@ entry_is x y small same = to_z-of_z w128 x (fits_signed_from_abs w128 x small) �
 -- the two sides of a comparison, one after the other
 pub sides : (r : Run) (at : Reading) (left right : Lin) (w0 w1 w2 : Weight) (s1 s2 : ℕ)
     → s1 ≡ scale_with 1 left.terms → s2 ≡ scale_with s1 right.terms → w0 ≡ start at.row
-    → w1 ≡ weighed_from w0 (lin_terms r at Left s2 left.terms) → w2 ≡ weighed_from w1 (lin_terms r at Right s2 right.terms)
-    → w2 ≡ weighed at.row (lin_terms r at Left (scale_of_two left right) left.terms ++ lin_terms r at Right (scale_of_two left right) right.terms)
+    → w1 ≡ weighed_from w0 (lin_terms (in_run r) at Left s2 left.terms) → w2 ≡ weighed_from w1 (lin_terms (in_run r) at Right s2 right.terms)
+    → w2 ≡ weighed at.row (lin_terms (in_run r) at Left (scale_of_two left right) left.terms ++ lin_terms (in_run r) at Right (scale_of_two left right) right.terms)
 sides r at left right w0 w1 w2 s1 s2 first second begun one two =
     let scale : s2 ≡ scale_of_two left right = second ∙ ap (λ s. scale_with s right.terms) first in
-    two ∙ ap (λ w. weighed_from w (lin_terms r at Right s2 right.terms)) one
-    ∙ sym (weighed-append w0 (lin_terms r at Left s2 left.terms) (lin_terms r at Right s2 right.terms))
-    ∙ ap (λ w. weighed_from w (lin_terms r at Left s2 left.terms ++ lin_terms r at Right s2 right.terms)) begun
-    ∙ ap (λ s. weighed at.row (lin_terms r at Left s left.terms ++ lin_terms r at Right s right.terms)) scale
+    two ∙ ap (λ w. weighed_from w (lin_terms (in_run r) at Right s2 right.terms)) one
+    ∙ sym (weighed-append w0 (lin_terms (in_run r) at Left s2 left.terms) (lin_terms (in_run r) at Right s2 right.terms))
+    ∙ ap (λ w. weighed_from w (lin_terms (in_run r) at Left s2 left.terms ++ lin_terms (in_run r) at Right s2 right.terms)) begun
+    ∙ ap (λ s. weighed at.row (lin_terms (in_run r) at Left s left.terms ++ lin_terms (in_run r) at Right s right.terms)) scale

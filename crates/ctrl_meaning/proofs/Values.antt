@@ -1,4 +1,5 @@
 -- The weighed sums, multiplied up to the common denominator, are the values.
+use Rattle.claims.specs.Subjects.{in_run}
 use Rattle.std.proofs.Common.{◌≡◌, ℕ, ◌*◌, ◌/◌, ◌<◌, ◌≤◌, ℤ, pos, ◌+ℤ◌, ◌-ℤ◌, ◌*ℤ◌, ◌<ℤ◌, neg_ℤ, List, [], ◌∷◌, sym, ◌∙◌, ap, arith}
 use Rattle.std.specs.Int.{◌∣◌}
 use Rattle.std.specs.Prelude.{All}
@@ -35,7 +36,7 @@ plus_none : (x : ℤ) → x +ℤ pos 0 ≡ x
 plus_none x = omega (arith, ints)
 
 -- a term is its factor times what it is taken of
-source_total : (r : Run) (at : Reading) (k : ℤ) (of : Source) → total (source_terms r at k of) ≡ k *ℤ amount r at of
+source_total : (r : Run) (at : Reading) (k : ℤ) (of : Source) → total (source_terms (in_run r) at k of) ≡ k *ℤ amount r at of
 source_total r at k One = plus_none _
 source_total r at k (State j) = plus_none _
 source_total r at k Acked = difference k _ _
@@ -43,12 +44,12 @@ source_total r at k Lost = difference k _ _
 
 -- the terms of the right side are those of the left side with their signs turned
 pub right_total : (r : Run) (at : Reading) (m : ℕ) (ts : List LinTerm)
-    → total (lin_terms r at Right m ts) ≡ neg_ℤ (total (lin_terms r at Left m ts))
+    → total (lin_terms (in_run r) at Right m ts) ≡ neg_ℤ (total (lin_terms (in_run r) at Left m ts))
 right_total r at m [] = omega (arith, ints)
 right_total r at m (t ∷ ts) =
     let k : ℤ = scaled Left m t.coef in
-    let joined = total-append (term_terms r at Right m t) (lin_terms r at Right m ts) in
-    let joined' = total-append (term_terms r at Left m t) (lin_terms r at Left m ts) in
+    let joined = total-append (term_terms (in_run r) at Right m t) (lin_terms (in_run r) at Right m ts) in
+    let joined' = total-append (term_terms (in_run r) at Left m t) (lin_terms (in_run r) at Left m ts) in
     let here = source_total r at (neg_ℤ k) t.of in
     let here' = source_total r at k t.of in
     let turned = neg_ℤ-*ℤ k (amount r at t.of) in
@@ -75,23 +76,23 @@ number_scaled k m n some divides =
 
 -- the left side's terms, multiplied up
 pub left_value : (r : Run) (at : Reading) (k m : ℕ) (ts : List LinTerm) → AreScaled m ts
-    → pos k *ℤ total (lin_terms r at Left m ts) ≡ value r at (k * m) ts
+    → pos k *ℤ total (lin_terms (in_run r) at Left m ts) ≡ value r at (k * m) ts
 left_value r at k m [] each = omega (arith, ints)
 left_value r at k m (t ∷ ts) each =
     let a : ℤ = amount r at t.of in
     let n : ℤ = number m t.coef in
-    ap (λ z. pos k *ℤ z) (total-append (term_terms r at Left m t) (lin_terms r at Left m ts))
-    ∙ *ℤ-+ℤ (pos k) (total (term_terms r at Left m t)) (total (lin_terms r at Left m ts))
-    ∙ ap (λ z. pos k *ℤ z +ℤ pos k *ℤ total (lin_terms r at Left m ts)) (source_total r at n t.of)
-    ∙ ap (λ z. z +ℤ pos k *ℤ total (lin_terms r at Left m ts)) (sym (*ℤ_assoc (pos k) n a) ∙ ap (λ z. z *ℤ a) (number_scaled k m t.coef each.0 each.1))
+    ap (λ z. pos k *ℤ z) (total-append (term_terms (in_run r) at Left m t) (lin_terms (in_run r) at Left m ts))
+    ∙ *ℤ-+ℤ (pos k) (total (term_terms (in_run r) at Left m t)) (total (lin_terms (in_run r) at Left m ts))
+    ∙ ap (λ z. pos k *ℤ z +ℤ pos k *ℤ total (lin_terms (in_run r) at Left m ts)) (source_total r at n t.of)
+    ∙ ap (λ z. z +ℤ pos k *ℤ total (lin_terms (in_run r) at Left m ts)) (sym (*ℤ_assoc (pos k) n a) ∙ ap (λ z. z *ℤ a) (number_scaled k m t.coef each.0 each.1))
     ∙ ap (λ z. number (k * m) t.coef *ℤ a +ℤ z) (left_value r at k m ts each.2)
 
 -- and those of the right side
 pub right_value : (r : Run) (at : Reading) (k m : ℕ) (ts : List LinTerm) → AreScaled m ts
-    → pos k *ℤ total (lin_terms r at Right m ts) ≡ neg_ℤ (value r at (k * m) ts)
+    → pos k *ℤ total (lin_terms (in_run r) at Right m ts) ≡ neg_ℤ (value r at (k * m) ts)
 right_value r at k m ts each =
     ap (λ z. pos k *ℤ z) (right_total r at m ts)
-    ∙ *ℤ-neg_ℤ (pos k) (total (lin_terms r at Left m ts))
+    ∙ *ℤ-neg_ℤ (pos k) (total (lin_terms (in_run r) at Left m ts))
     ∙ ap neg_ℤ (left_value r at k m ts each)
 
 -- a scale is a multiple of what it began with and of each denominator

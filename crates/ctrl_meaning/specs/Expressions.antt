@@ -1,35 +1,33 @@
--- The terms of expressions as they are weighed, brought to a scale that all denominators divide.
+-- The terms of expressions, brought to a scale that all denominators divide, for any way `term` of making a term.
 use Rattle.std.specs.Prelude.{ℕ, ◌-◌, ℤ, neg_ℤ, List, [], ◌∷◌, ◌++◌, fold, flat_map, All}
-use Rattle.weighing.specs.Claim.{Claim, compare}
+use Rattle.claims.specs.Subjects.{Subject, constant, of_service, of_state}
+use Rattle.weighing.specs.Claim.{Compared}
 use Rattle.weighing.specs.Scaled.{IsNum, common, scaled}
-use Rattle.weighing.specs.Weighed.{times}
 use Rattle.weighing.specs.declared.scales.Side.{Side}
 use Rattle.weighing.specs.declared.scales.Side.TheVariants.{Left, Right}
-use Rattle.weighing.specs.declared.weighings.Term.{Term}
 use Rattle.weighing.specs.declared.weighings.Rel5.{Rel5}
-use Rattle.run_rows.specs.Runs.{lost, served, state_of}
 use Rattle.run_rows.specs.declared.rows.Run.{Run}
 use Rattle.ctrl_types.specs.Limits.{IsSource}
 use Rattle.ctrl_types.specs.declared.expressions.Lin.{Lin}
 use Rattle.ctrl_types.specs.declared.expressions.LinTerm.{LinTerm}
 use Rattle.ctrl_types.specs.declared.expressions.Source.{Source}
 use Rattle.ctrl_types.specs.declared.expressions.Source.TheVariants.{One, State, Acked, Lost}
-use Rattle.ctrl_meaning.specs.Readings.{states_at}
+use Rattle.ctrl_meaning.specs.Readings.{losses_heard, losses_heard_before, states_at}
 use Rattle.ctrl_meaning.specs.declared.readings.Reading.{Reading}
 
 -- a multiple of what a term is taken of; a signal is the growth of an entry in the step that the sender hears of
-abbrev pub source_terms : Run → Reading → ℤ → Source → List Term
-source_terms r at k One = times k r.over ∷ []
-source_terms r at k (State j) = times k (state_of r at.states at.flow j) ∷ []
-source_terms r at k Acked = times k (served r at.heard at.flow) ∷ times (neg_ℤ k) (served r (at.heard - 1) at.flow) ∷ []
-source_terms r at k Lost = times k (lost r at.heard at.flow) ∷ times (neg_ℤ k) (lost r (at.heard - 1) at.flow) ∷ []
+abbrev pub source_terms : {T : Type 0} → (ℤ → Subject → T) → Reading → ℤ → Source → List T
+source_terms term at k One = term k constant ∷ []
+source_terms term at k (State j) = term k (of_state at.states at.flow j) ∷ []
+source_terms term at k Acked = term k (of_service at.heard at.flow) ∷ term (neg_ℤ k) (of_service (at.heard - 1) at.flow) ∷ []
+source_terms term at k Lost = term k (losses_heard at) ∷ term (neg_ℤ k) (losses_heard_before at) ∷ []
 
-abbrev pub term_terms : Run → Reading → Side → ℕ → LinTerm → List Term
-term_terms r at side scale t = source_terms r at (scaled side scale t.coef) t.of
+abbrev pub term_terms : {T : Type 0} → (ℤ → Subject → T) → Reading → Side → ℕ → LinTerm → List T
+term_terms term at side scale t = source_terms term at (scaled side scale t.coef) t.of
 
 -- the terms of an expression on a side of a comparison
-abbrev pub lin_terms : Run → Reading → Side → ℕ → List LinTerm → List Term
-lin_terms r at side scale terms = flat_map (term_terms r at side scale) terms
+abbrev pub lin_terms : {T : Type 0} → (ℤ → Subject → T) → Reading → Side → ℕ → List LinTerm → List T
+lin_terms term at side scale terms = flat_map (term_terms term at side scale) terms
 
 -- the least common multiple of a scale and the denominators of an expression
 abbrev pub scale_with : ℕ → List LinTerm → ℕ
@@ -39,10 +37,10 @@ abbrev pub scale_of_two : Lin → Lin → ℕ
 scale_of_two left right = scale_with (scale_with 1 left.terms) right.terms
 
 -- a written comparison: the terms of its left side, then those of its right side with their signs turned
-abbrev pub comparison_claim : Run → Reading → Lin → Rel5 → Lin → Claim
-comparison_claim r at left rel right =
+abbrev pub comparison_claim : {T : Type 0} → (ℤ → Subject → T) → Reading → Lin → Rel5 → Lin → Compared T
+comparison_claim term at left rel right =
     let scale = scale_of_two left right in
-    compare (lin_terms r at Left scale left.terms ++ lin_terms r at Right scale right.terms) rel
+    record { terms = lin_terms term at Left scale left.terms ++ lin_terms term at Right scale right.terms; rel = rel }
 
 -- what the code needs of an expression's terms
 pub record IsTerm (states : ℕ) (t : LinTerm) : Type 0 where

@@ -1,6 +1,6 @@
 -- What the code's steps need of a controller and a run.
 use Rattle.std.specs.Prelude.{◌≡◌, ℕ, ◌+◌, ◌<◌, ◌≤◌, length, Option, Some, None}
-use Rattle.run_rows.specs.Runs.{Fits, IsRun, flow_of}
+use Rattle.run_rows.specs.Runs.{Fits, IsRun, Shaped, flow_of}
 use Rattle.run_rows.specs.declared.rows.Run.{Run}
 use Rattle.path_server.specs.Shapes.{shape_of}
 use Rattle.path_server.specs.declared.settings.Setting.{Setting}
@@ -15,6 +15,10 @@ use Rattle.ctrl_meaning.specs.Steps.{set_of}
 use Rattle.ctrl_meaning.specs.declared.readings.Reading.{Reading}
 
 -- the run has the shape of the setting's runs for this controller
+abbrev pub HasShape : Controller → Setting → Run → Type 0
+HasShape c s r = Shaped (shape_of s (length c.states) c.delay_max) r
+
+-- and its entries are within 128 bits
 abbrev pub FitsBoth : Controller → Setting → Run → Type 0
 FitsBoth c s r = Fits (shape_of s (length c.states) c.delay_max) r
 

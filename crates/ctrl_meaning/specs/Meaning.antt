@@ -7,11 +7,13 @@ use Rattle.weighing.specs.Scaled.{den_of}
 use Rattle.weighing.specs.declared.scales.Num.{Num}
 use Rattle.weighing.specs.declared.weighings.Rel5.{Rel5}
 use Rattle.weighing.specs.declared.weighings.Rel5.TheVariants.{AtMost, Below, AtLeast, Above, Equal}
+use Rattle.claims.specs.Subjects.{worth}
 use Rattle.run_rows.specs.Runs.{arrived, lost, served, state_of}
 use Rattle.run_rows.specs.declared.rows.Run.{Run}
 use Rattle.path_server.specs.declared.settings.Setting.{Setting}
+use Rattle.condition_tree.specs.Trees.{Truth}
 use Rattle.ctrl_types.specs.Limits.{rule_of}
-use Rattle.ctrl_types.specs.Tests.{Test, always, never, comparison, delay, opposite, end_of_all, all_of, end_of_any, any_of, test_of}
+use Rattle.ctrl_types.specs.Tests.{Test, Leaf, compares, delayed, test_of}
 use Rattle.ctrl_types.specs.declared.controllers.Controller.{Controller}
 use Rattle.ctrl_types.specs.declared.controllers.State.{State}
 use Rattle.ctrl_types.specs.declared.expressions.Lin.{Lin}
@@ -19,6 +21,7 @@ use Rattle.ctrl_types.specs.declared.expressions.LinTerm.{LinTerm}
 use Rattle.ctrl_types.specs.declared.expressions.Source.{Source}
 use Rattle.ctrl_types.specs.declared.expressions.Source.TheVariants.{One, State as StateSource, Acked, Lost}
 use Rattle.ctrl_meaning.specs.Opening.{declared_state, opening_row, state_in_range}
+use Rattle.ctrl_meaning.specs.Readings.{losses_heard, losses_heard_before}
 use Rattle.ctrl_meaning.specs.Steps.{guard_outcome, sending, sent, set_of, set_outcome, stepping}
 use Rattle.ctrl_meaning.specs.declared.readings.Reading.{Reading}
 
@@ -27,7 +30,7 @@ abbrev pub amount : Run → Reading → Source → ℤ
 amount r at One = r.over
 amount r at (StateSource j) = state_of r at.states at.flow j
 amount r at Acked = served r at.heard at.flow -ℤ served r (at.heard - 1) at.flow
-amount r at Lost = lost r at.heard at.flow -ℤ lost r (at.heard - 1) at.flow
+amount r at Lost = worth r (losses_heard at) -ℤ worth r (losses_heard_before at)
 
 -- a written number times den
 abbrev pub number : ℕ → Num → ℤ
@@ -45,17 +48,14 @@ Compares AtLeast x y = y ≤ℤ x
 Compares Above x y = y <ℤ x
 Compares Equal x y = x ≡ y
 
+-- a comparison is true of the values, and a test of delay of what was accepted and what was served
+abbrev pub LeafHolds : Run → Reading → ℕ → Leaf Lin ℕ → Type 0
+LeafHolds r at den (compares left rel right) = Compares rel (value r at den left.terms) (value r at den right.terms)
+LeafHolds r at den (delayed k) = served r at.heard at.flow ≤ℤ (arrived r (at.heard - k) at.flow -ℤ lost r (at.heard - k) at.flow)
+
 -- a condition is true as its comparisons and connectives say
 abbrev pub IsTrueAt : Run → Reading → ℕ → Test → Type 0
-IsTrueAt r at den always = Unit {0}
-IsTrueAt r at den never = ⊥
-IsTrueAt r at den (comparison left rel right) = Compares rel (value r at den left.terms) (value r at den right.terms)
-IsTrueAt r at den (delay k) = served r at.heard at.flow ≤ℤ (arrived r (at.heard - k) at.flow -ℤ lost r (at.heard - k) at.flow)
-IsTrueAt r at den (opposite t) = IsTrueAt r at den t → ⊥
-IsTrueAt r at den end_of_all = Unit {0}
-IsTrueAt r at den (all_of t rest) = IsTrueAt r at den t × IsTrueAt r at den rest
-IsTrueAt r at den end_of_any = ⊥
-IsTrueAt r at den (any_of t rest) = IsTrueAt r at den t ⊎ IsTrueAt r at den rest
+IsTrueAt r at den t = Truth (LeafHolds r at den) t
 
 abbrev pub den_of_all : Controller → ℕ
 den_of_all c = unsigned_abs c.den
@@ -100,7 +100,7 @@ lesser x y = if int_le x y then x else y
 abbrev pub allowed_by_window : Run → Reading → ℕ → Lin → ℤ
 allowed_by_window r at den window =
     greater (pos den *ℤ arrived r (at.row - 1) at.flow)
-    (pos den *ℤ (served r at.heard at.flow +ℤ lost r at.heard at.flow) +ℤ value r at den window.terms)
+    (pos den *ℤ (served r at.heard at.flow +ℤ worth r (losses_heard at)) +ℤ value r at den window.terms)
 
 -- what had arrived and a step's worth of the rate
 abbrev pub allowed_by_rate : Run → Reading → ℕ → Lin → ℤ

@@ -1,12 +1,11 @@
 -- The opening row: each state within the range of its `init`.
-use Rattle.std.specs.Prelude.{ℕ, ℤ, pos, neg_ℤ, [], ◌∷◌, length, Option, Some, None, Result, Ok, Err, Bool, false}
+use Rattle.std.specs.Prelude.{ℕ, ℤ, pos, neg_ℤ, List, [], ◌∷◌, length, Option, Some, None, Result, Ok, Err, Bool, false}
 use Rattle.std.proofs.Common.{get_or}
 use Rattle.whole.specs.declared.answers.Stuck.{Stuck}
 use Rattle.weighing.specs.Asked.{asked}
-use Rattle.weighing.specs.Claim.{Claim, compare, both_of, outcome}
-use Rattle.weighing.specs.Weighed.{times}
+use Rattle.claims.specs.Subjects.{constant, in_run, of_state}
+use Rattle.weighing.specs.Claim.{Claims, all_claims, compare, outcome}
 use Rattle.weighing.specs.declared.weighings.Rel5.TheVariants.{AtLeast, AtMost}
-use Rattle.run_rows.specs.Runs.{state_of}
 use Rattle.run_rows.specs.declared.rows.Run.{Run}
 use Rattle.path_server.specs.Shapes.{shape_of}
 use Rattle.path_server.specs.declared.settings.Setting.{Setting}
@@ -23,17 +22,17 @@ abbrev pub declared_state : Controller → ℕ → State
 declared_state c j = get_or c.states j no_state
 
 -- lo <= x <= hi, each comparison at the scale of its own denominator
-abbrev pub range_claim : State → ℤ → ℤ → Claim
-range_claim s x over =
-    both_of (compare (times s.lo.den x ∷ times (neg_ℤ s.lo.num) over ∷ []) AtLeast)
-    (compare (times s.hi.den x ∷ times (neg_ℤ s.hi.num) over ∷ []) AtMost)
+abbrev pub range_claims : {S T : Type 0} → (ℤ → S → T) → State → S → S → List (Claims T)
+range_claims term s x over =
+    compare (term s.lo.den x ∷ term (neg_ℤ s.lo.num) over ∷ []) AtLeast
+    ∷ compare (term s.hi.den x ∷ term (neg_ℤ s.hi.num) over ∷ []) AtMost ∷ []
 
 -- the row on which the states stand first
 abbrev pub opening_row : Controller → Setting → ℕ
 opening_row c s = (shape_of s (length c.states) c.delay_max).h
 
 abbrev pub state_in_range : Controller → Run → ℕ → ℕ → ℕ → Result Bool Stuck
-state_in_range c r row flow j = outcome row (range_claim (declared_state c j) (state_of r row flow j) r.over)
+state_in_range c r row flow j = outcome row (all_claims (range_claims (in_run r) (declared_state c j) (of_state row flow j) constant))
 
 abbrev pub opening_answer : Result (Option ℕ) Stuck → OpeningHolds
 opening_answer (Err stuck) = Wide stuck

@@ -1,11 +1,19 @@
 -- Where the names of an expression are read.
-use Rattle.std.specs.Prelude.{ℕ, ◌<◌, ◌≤◌, length}
+use Rattle.std.specs.Prelude.{ℕ, ◌-◌, ◌<◌, ◌≤◌, length}
+use Rattle.claims.specs.Subjects.{Subject, of_losses}
 use Rattle.run_rows.specs.Runs.{flow_count, flow_of}
 use Rattle.run_rows.specs.declared.rows.Run.{Run}
 use Rattle.ctrl_meaning.specs.declared.readings.Reading.{Reading}
 
 abbrev pub reading : ℕ → ℕ → ℕ → ℕ → Reading
 reading row flow states heard = record { row = row; flow = flow; states = states; heard = heard }
+
+-- the losses that the flow hears of on the row, and those that it heard of on the row before
+abbrev pub losses_heard : Reading → Subject
+losses_heard at = of_losses at.heard at.flow
+
+abbrev pub losses_heard_before : Reading → Subject
+losses_heard_before at = of_losses (at.heard - 1) at.flow
 
 -- the rows and the flow stand in the run, and so does the row before the one that the sender hears of
 pub record IsReading (r : Run) (at : Reading) : Type 0 where

@@ -1,13 +1,12 @@
 -- The answer about a controlled row: the rule that fires, the states that it gives, and what is sent.
-use Rattle.std.specs.Prelude.{ℕ, ◌-◌, pos, negsuc, Bool, true, false, [], ◌∷◌, length, Option, Some, None, Result, Ok, Err}
+use Rattle.std.specs.Prelude.{ℕ, ◌-◌, ℤ, pos, negsuc, Bool, true, false, [], ◌∷◌, length, Option, Some, None, Result, Ok, Err}
 use Rattle.std.proofs.Common.{get_or}
 use Rattle.whole.specs.declared.answers.Stuck.{Stuck}
 use Rattle.weighing.specs.Asked.{asked}
-use Rattle.weighing.specs.Claim.{Claim, compare, outcome}
-use Rattle.weighing.specs.Weighed.{times}
+use Rattle.claims.specs.Subjects.{Subject, in_run, of_state}
+use Rattle.weighing.specs.Claim.{Claims, compare, outcome}
 use Rattle.weighing.specs.declared.scales.Side.TheVariants.{Right}
 use Rattle.weighing.specs.declared.weighings.Rel5.TheVariants.{Equal}
-use Rattle.run_rows.specs.Runs.{state_of}
 use Rattle.run_rows.specs.declared.rows.Run.{Run}
 use Rattle.path_server.specs.declared.settings.Setting.{Setting}
 use Rattle.ctrl_types.specs.Limits.{rule_of}
@@ -31,22 +30,22 @@ abbrev pub sending : Setting → ℕ → ℕ → Reading
 sending s row flow = reading row flow row (row - s.rtt)
 
 -- what a rule claims of a state: it has the value of its expression, or it keeps its value
-abbrev pub set_claim : Run → Reading → ℕ → Option Lin → Claim
-set_claim r at j None =
-    compare (times (pos 1) (state_of r at.row at.flow j) ∷ times (negsuc 0) (state_of r at.states at.flow j) ∷ []) Equal
-set_claim r at j (Some lin) =
+abbrev pub set_claim : {T : Type 0} → (ℤ → Subject → T) → Reading → ℕ → Option Lin → Claims T
+set_claim term at j None =
+    compare (term (pos 1) (of_state at.row at.flow j) ∷ term (negsuc 0) (of_state at.states at.flow j) ∷ []) Equal
+set_claim term at j (Some lin) =
     let scale = scale_with 1 lin.terms in
-    compare (times (pos scale) (state_of r at.row at.flow j) ∷ lin_terms r at Right scale lin.terms) Equal
+    compare (term (pos scale) (of_state at.row at.flow j) ∷ lin_terms term at Right scale lin.terms) Equal
 
 -- what rule k sets state j to
 abbrev pub set_of : Controller → ℕ → ℕ → Option Lin
 set_of c k j = get_or (rule_of c k).sets j None
 
 abbrev pub guard_outcome : Controller → Run → Reading → ℕ → Result Bool Stuck
-guard_outcome c r at k = outcome at.row (test_claim r at (test_of (rule_of c k).guard))
+guard_outcome c r at k = outcome at.row (test_claim (in_run r) at (test_of (rule_of c k).guard))
 
 abbrev pub set_outcome : Controller → Run → Reading → ℕ → ℕ → Result Bool Stuck
-set_outcome c r at k j = outcome at.row (set_claim r at j (set_of c k j))
+set_outcome c r at k j = outcome at.row (set_claim (in_run r) at j (set_of c k j))
 
 -- the last rule fires where no other does
 abbrev pub firing : ℕ → Result (Option ℕ) Stuck → Result ℕ Stuck
@@ -63,7 +62,7 @@ unfoldable pub differing : Controller → Run → Reading → ℕ → Result (Op
 differing c r at k = asked false (set_outcome c r at k) (length c.states)
 
 unfoldable pub sent : Controller → Run → Reading → Result Bool Stuck
-sent c r at = outcome at.row (send_claim r at c.window c.rate)
+sent c r at = outcome at.row (send_claim (in_run r) at c.window c.rate)
 
 abbrev pub after_states : ℕ → Result Bool Stuck → StepHolds
 after_states k (Err stuck) = SendWide stuck

@@ -1,5 +1,7 @@
 //! Expressions as they are weighed: term by term, at a scale that all denominators of the comparison divide.
 ghost use Rattle.std.specs.Prelude.{◌≡◌, ◌<◌, ◌≤◌, neg_ℤ, unsigned_abs};
+ghost use Rattle.condition_tree.specs.Trees.{leaf};
+ghost use Rattle.claims.specs.Subjects.{in_run};
 ghost use Rattle.run_rows.specs.Runs.{IsRun};
 ghost use Rattle.weighing.specs.Claim.{outcome};
 ghost use Rattle.weighing.specs.Weighed.{weighed_from};
@@ -30,7 +32,7 @@ fn plus_source(weighing: Weighing, run: &Run, at: &Reading, factor: i128, of: So
     requires at_in { IsReading run.now at.now }
     requires source_in { IsSource (states_at run.now at.now) of }
     requires factor_to { unsigned_abs factor ≤ 1000000000000 }
-    ensures { result ≡ weighed_from weighing (source_terms run.now at.now factor of) }
+    ensures { result ≡ weighed_from weighing (source_terms (in_run run.now) at.now factor of) }
 {
     match of {
         Source::One => weighing.plus(factor, run.over),
@@ -64,7 +66,7 @@ pub fn plus_lin(
     requires at_in { IsReading run.now at.now }
     requires terms_in { AreTerms run.now at.now lin.now.terms }
     requires scale_to { scale ≤ 1000000 }
-    ensures { result ≡ weighed_from start (lin_terms run.now at.now side scale lin.now.terms) }
+    ensures { result ≡ weighed_from start (lin_terms (in_run run.now) at.now side scale lin.now.terms) }
 {
     let mut weighing = start;
     for term in lin.terms.as_slice() {
@@ -101,7 +103,7 @@ pub fn comparison(
     requires left_in { AreTerms run.now at.now left.now.terms }
     requires right_in { AreTerms run.now at.now right.now.terms }
     requires scale_to { scale_of_two left.now right.now ≤ 1000000 }
-    ensures { result ≡ outcome at.now.row (comparison_claim run.now at.now left.now rel right.now) }
+    ensures { result ≡ outcome at.now.row (leaf (comparison_claim (in_run run.now) at.now left.now rel right.now)) }
 {
     let scale = scale_with(scale_with(1, run, at, left), run, at, right);
     let left_sum = plus_lin(Weighing::new(at.row), run, at, Side::Left, scale, left);

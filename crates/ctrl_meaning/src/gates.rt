@@ -1,5 +1,7 @@
 //! Guards, all of whose comparisons are weighed, in order, before the guard's truth is taken.
 ghost use Rattle.std.specs.Prelude.{◌≡◌, ◌≤◌, map};
+ghost use Rattle.condition_tree.specs.Trees.{leaf};
+ghost use Rattle.claims.specs.Subjects.{in_run};
 ghost use Rattle.run_rows.specs.Runs.{IsRun};
 ghost use Rattle.weighing.specs.Claim.{outcome};
 ghost use Rattle.ctrl_types.specs.Tests.{conjunction, disjunction, test_of};
@@ -19,7 +21,7 @@ pub fn gate_holds(gate: &Gate, run: &Run, at: &Reading) -> Result<bool, Stuck>
     requires run_in { IsRun run.now }
     requires at_in { IsReading run.now at.now }
     requires gate_in { CanWeigh run.now at.now (test_of gate.now) }
-    ensures { result ≡ outcome at.now.row (test_claim run.now at.now (test_of gate.now)) }
+    ensures { result ≡ outcome at.now.row (test_claim (in_run run.now) at.now (test_of gate.now)) }
 {
     match gate {
         Gate::True => Ok(true),
@@ -38,7 +40,7 @@ fn all_hold(parts: &Vec<Gate>, run: &Run, at: &Reading) -> Result<bool, Stuck>
     requires run_in { IsRun run.now }
     requires at_in { IsReading run.now at.now }
     requires parts_in { CanWeigh run.now at.now (conjunction (map test_of parts.now.items)) }
-    ensures { result ≡ outcome at.now.row (test_claim run.now at.now (conjunction (map test_of parts.now.items))) }
+    ensures { result ≡ outcome at.now.row (test_claim (in_run run.now) at.now (conjunction (map test_of parts.now.items))) }
 {
     let mut all = Ok(true);
     for part in parts {
@@ -53,7 +55,7 @@ fn any_holds(parts: &Vec<Gate>, run: &Run, at: &Reading) -> Result<bool, Stuck>
     requires run_in { IsRun run.now }
     requires at_in { IsReading run.now at.now }
     requires parts_in { CanWeigh run.now at.now (disjunction (map test_of parts.now.items)) }
-    ensures { result ≡ outcome at.now.row (test_claim run.now at.now (disjunction (map test_of parts.now.items))) }
+    ensures { result ≡ outcome at.now.row (test_claim (in_run run.now) at.now (disjunction (map test_of parts.now.items))) }
 {
     let mut any = Ok(false);
     for part in parts {
@@ -68,7 +70,7 @@ fn was_served(rows: u32, run: &Run, at: &Reading) -> Result<bool, Stuck>
     requires run_in { IsRun run.now }
     requires at_in { IsReading run.now at.now }
     requires rows_in { rows ≤ at.now.heard }
-    ensures { result ≡ outcome at.now.row (delay_claim run.now at.now rows) }
+    ensures { result ≡ outcome at.now.row (leaf (delay_claim (in_run run.now) at.now rows)) }
 {
     let then = run.flow(at.heard - rows, at.flow);
     let now = run.flow(at.heard, at.flow);

@@ -1,14 +1,15 @@
 ghost use Rattle.std.specs.Prelude.{◌≡◌, ◌<◌, ◌≤◌, ℕ, length, false};
 ghost use Rattle.whole.specs.declared.answers.Stuck.{Stuck};
+ghost use Rattle.weighing.specs.Weighed.{times};
 ghost use Rattle.run_rows.specs.Runs.{IsEntry, IsRun, flow_count, flow_of};
 ghost use Rattle.weighing.specs.Asked.{asked};
-ghost use Rattle.weighing.specs.Claim.{outcome};
+ghost use Rattle.weighing.specs.Claim.{all_claims, outcome};
 ghost use Rattle.weighing.specs.Scaled.{IsNum};
 ghost use Rattle.path_server.specs.Limits.{IsSetting};
 ghost use Rattle.ctrl_types.specs.Limits.{IsController};
 ghost use Rattle.ctrl_meaning.specs.Limits.{FitsBoth};
 ghost use Rattle.ctrl_meaning.specs.Meaning.{IsFirstOut, IsStuckInOpening, OpensWithin};
-ghost use Rattle.ctrl_meaning.specs.Opening.{declared_state, opening, range_claim, state_in_range};
+ghost use Rattle.ctrl_meaning.specs.Opening.{declared_state, opening, range_claims, state_in_range};
 
 use crate::asking::noted;
 use crate::expressions::negated;
@@ -102,7 +103,7 @@ fn is_in_range(state: &State, value: i128, over: i128, row: u32) -> Result<bool,
     requires hi_in { IsNum state.now.hi }
     requires value_in { IsEntry value }
     requires over_in { IsEntry over }
-    ensures { result ≡ outcome row (range_claim state.now value over) }
+    ensures { result ≡ outcome row (all_claims (range_claims times state.now value over)) }
 {
     let from = [Term(state.lo.den, value), Term(negated(state.lo.num), over)];
     let to = [Term(state.hi.den, value), Term(negated(state.hi.num), over)];

@@ -1,5 +1,6 @@
 //! What a flow sends: the greater of what it had sent and what the window allows and, with a rate, at most that.
 ghost use Rattle.std.specs.Prelude.{◌≡◌, Some};
+ghost use Rattle.claims.specs.Subjects.{in_run};
 ghost use Rattle.run_rows.specs.Runs.{IsRun};
 ghost use Rattle.weighing.specs.Weighed.{weighed};
 ghost use Rattle.ctrl_meaning.specs.Limits.{CanSend, CanSum};
@@ -59,7 +60,7 @@ fn paced(growth: Weighing, window: Weighing, rate: Weighing) -> Result<bool, Stu
 fn growth(run: &Run, at: &Reading) -> Weighing
     requires run_in { IsRun run.now }
     requires at_in { IsReading run.now at.now }
-    ensures { result ≡ weighed at.now.row (growth_terms run.now at.now) }
+    ensures { result ≡ weighed at.now.row (growth_terms (in_run run.now) at.now) }
 {
     let now = run.flow(at.row, at.flow);
     let before = run.flow(at.row - 1, at.flow);
@@ -72,7 +73,7 @@ fn over_window(run: &Run, at: &Reading, window: &Lin) -> Weighing
     requires run_in { IsRun run.now }
     requires at_in { IsReading run.now at.now }
     requires window_in { CanSum run.now at.now (Some window.now) }
-    ensures { result ≡ weighed at.now.row (window_terms run.now at.now window.now) }
+    ensures { result ≡ weighed at.now.row (window_terms (in_run run.now) at.now window.now) }
 {
     let scale = scale_with(1, run, at, window);
     let unit = i128::from(scale);
@@ -93,7 +94,7 @@ fn over_rate(run: &Run, at: &Reading, rate: &Lin) -> Weighing
     requires run_in { IsRun run.now }
     requires at_in { IsReading run.now at.now }
     requires rate_in { CanSum run.now at.now (Some rate.now) }
-    ensures { result ≡ weighed at.now.row (rate_terms run.now at.now rate.now) }
+    ensures { result ≡ weighed at.now.row (rate_terms (in_run run.now) at.now rate.now) }
 {
     let scale = scale_with(1, run, at, rate);
     let unit = i128::from(scale);

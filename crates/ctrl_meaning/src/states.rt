@@ -1,5 +1,6 @@
 //! The states that a step gives: the rule that fires, and the first state that isn't what it gives.
 ghost use Rattle.std.specs.Prelude.{◌≡◌, ◌<◌, length, None, Some};
+ghost use Rattle.claims.specs.Subjects.{in_run};
 ghost use Rattle.run_rows.specs.Runs.{IsRun, flow_of};
 ghost use Rattle.weighing.specs.Claim.{outcome};
 ghost use Rattle.ctrl_meaning.specs.Limits.{CanStep, CanSum};
@@ -58,7 +59,7 @@ fn is_set(run: &Run, at: &Reading, state: u32, set: &Option<Lin>) -> Result<bool
     requires here { state < length (flow_of run.now at.now.row at.now.flow).x }
     requires before { state < states_at run.now at.now }
     requires set_in { CanSum run.now at.now set.now }
-    ensures { result ≡ outcome at.now.row (set_claim run.now at.now state set.now) }
+    ensures { result ≡ outcome at.now.row (set_claim (in_run run.now) at.now state set.now) }
 {
     match set {
         None => is_kept(run, at, state),
@@ -73,7 +74,7 @@ fn is_kept(run: &Run, at: &Reading, state: u32) -> Result<bool, Stuck>
     requires at_in { IsReading run.now at.now }
     requires here { state < length (flow_of run.now at.now.row at.now.flow).x }
     requires before { state < states_at run.now at.now }
-    ensures { result ≡ outcome at.now.row (set_claim run.now at.now state None) }
+    ensures { result ≡ outcome at.now.row (set_claim (in_run run.now) at.now state None) }
 {
     let here = run.state(at.row, at.flow, state);
     let before = run.state(at.states, at.flow, state);
@@ -87,7 +88,7 @@ fn has_value(run: &Run, at: &Reading, state: u32, lin: &Lin) -> Result<bool, Stu
     requires at_in { IsReading run.now at.now }
     requires here { state < length (flow_of run.now at.now.row at.now.flow).x }
     requires set_in { CanSum run.now at.now (Some lin.now) }
-    ensures { result ≡ outcome at.now.row (set_claim run.now at.now state (Some lin.now)) }
+    ensures { result ≡ outcome at.now.row (set_claim (in_run run.now) at.now state (Some lin.now)) }
 {
     let here = run.state(at.row, at.flow, state);
     let scale = scale_with(1, run, at, lin);

@@ -1,5 +1,5 @@
 -- A call that gives what is read gives exactly the controllers' texts.
-use Rattle.std.proofs.Common.{◌≡◌, ℕ, Bool, true, false, cond, ⊎_elim, Result, Ok, Err, List, [], ◌∷◌, refl, sym, ap, subst, ◌∙◌, arith}
+use Rattle.std.proofs.Common.{◌≡◌, ℕ, Bool, true, false, cond, ◌⊎◌, ⊎_elim, inl, inr, Result, Ok, Err, List, [], ◌∷◌, refl, sym, ap, subst, ◌∙◌, arith}
 use Rattle.std.specs.Prelude.{codes, IfOk, IsErrOf}
 use Rattle.whole.specs.declared.answers.ReadFault.{ReadFault}
 use Rattle.whole.specs.declared.answers.ReadFault.TheVariants.{Refused, NoMemory}
@@ -110,3 +110,11 @@ one_refusal bytes r s p q = sym (err_is {A = Sections} r s (sym (refused_text by
 
 pub not_both : (bytes : List ℕ) (r : Refusal) (s : Sections) → IsRefused bytes r → IsText bytes s → ⊥
 not_both bytes r s p q = err_not_ok r s (sym (refused_text bytes r p) ∙ text_again bytes s q)
+
+-- bytes are a text, or they are refused
+pub either_text : (bytes : List ℕ) → ((s : Sections) × IsText bytes s) ⊎ ((r : Refusal) × IsRefused bytes r)
+either_text bytes = by (text_of bytes) refl
+  where
+    by : (x : Result Sections Refusal) → text_of bytes ≡ x → ((s : Sections) × IsText bytes s) ⊎ ((r : Refusal) × IsRefused bytes r)
+    by (Ok s) e = inl (s, text_spelled bytes s e)
+    by (Err r) e = inr (r, text_refused bytes r e)

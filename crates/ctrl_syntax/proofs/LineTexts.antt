@@ -15,7 +15,7 @@ use Rattle.source_text.proofs.LineLaws.{free_of_cr}
 use Rattle.source_text.proofs.CleanLaws.{AreRight, right-append, right_free}
 use Rattle.weighing.specs.declared.scales.Num.{Num}
 use Rattle.condition_syntax.specs.declared.conditions.Style.TheVariants.{Controller}
-use Rattle.condition_syntax.specs.Expressions.{signed}
+use Rattle.condition_syntax.specs.Words.{signed}
 use Rattle.condition_syntax.specs.Trees.{Condition}
 use Rattle.condition_syntax.specs.Grammar.{IsNumber}
 use Rattle.condition_syntax.specs.Printing.{number_text, expr_text, condition_text}

@@ -11,7 +11,8 @@ use Rattle.weighing.specs.declared.scales.Num.{Num}
 use Rattle.condition_syntax.specs.declared.conditions.Style.TheVariants.{Controller}
 use Rattle.condition_syntax.specs.declared.expressions.ETerm.{ETerm}
 use Rattle.condition_syntax.specs.Fronts.{stands, says}
-use Rattle.condition_syntax.specs.Expressions.{signed, expr_by}
+use Rattle.condition_syntax.specs.Words.{signed}
+use Rattle.condition_syntax.specs.Expressions.{expr_by}
 use Rattle.condition_syntax.specs.Conditions.{condition_by}
 use Rattle.condition_syntax.specs.Trees.{Condition}
 use Rattle.condition_syntax.specs.Grammar.{IsNumber, SpellsExpr, SpellsCond}

@@ -16,7 +16,8 @@ use Rattle.condition_syntax.specs.declared.faults.Fault.{Fault}
 use Rattle.condition_syntax.specs.declared.faults.Fault.TheVariants.{Number}
 use Rattle.condition_syntax.specs.Refusals.{rule}
 use Rattle.condition_syntax.specs.Fronts.{stands, says}
-use Rattle.condition_syntax.specs.Expressions.{number_of, is_within, fraction, signed, expr_by}
+use Rattle.condition_syntax.specs.Words.{fraction, signed}
+use Rattle.condition_syntax.specs.Expressions.{number_of, is_within, expr_by}
 use Rattle.condition_syntax.specs.Conditions.{condition_by}
 use Rattle.condition_syntax.specs.Trees.{Condition}
 use Rattle.condition_syntax.specs.Grammar.{IsNumber, SpellsExpr, SpellsCond}

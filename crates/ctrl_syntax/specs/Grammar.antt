@@ -7,7 +7,7 @@ use Rattle.source_text.specs.Lines.{Line, source_lines}
 use Rattle.source_text.specs.Header.{texts}
 use Rattle.weighing.specs.declared.scales.Num.{Num}
 use Rattle.condition_syntax.specs.declared.conditions.Style.TheVariants.{Controller}
-use Rattle.condition_syntax.specs.Expressions.{signed}
+use Rattle.condition_syntax.specs.Words.{signed}
 use Rattle.condition_syntax.specs.Trees.{Condition}
 use Rattle.condition_syntax.specs.Grammar.{IsNumber, SpellsExpr, SpellsCond}
 use Rattle.ctrl_syntax.specs.declared.syntax.StateLine.{StateLine}

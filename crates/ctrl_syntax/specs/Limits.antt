@@ -3,14 +3,14 @@ use Rattle.std.specs.Prelude.{◌≡◌, ℕ, suc, ◌≤◌, List, length, All,
 use Rattle.source_text.specs.Spelling.{is_word}
 use Rattle.weighing.specs.Scaled.{IsNum}
 use Rattle.weighing.specs.declared.scales.Num.{Num}
-use Rattle.condition_syntax.specs.Fronts.{is_keyword}
-use Rattle.condition_syntax.specs.Limits.{EachExpr, EachDelay}
+use Rattle.condition_syntax.specs.Words.{is_keyword}
 use Rattle.condition_syntax.specs.Printing.{is_conjunction, is_disjunction}
-use Rattle.condition_syntax.specs.Trees.{Condition, always, never, comparison, delay, opposite, end_of_all, all_of, end_of_any, any_of, comparisons, condition_of}
+use Rattle.condition_syntax.specs.Trees.{Condition, always, never, leaf, compares, delayed, opposite, end_of_all, all_of, end_of_any, any_of, comparisons, condition_of, EachExpr, EachDelay}
 use Rattle.condition_syntax.specs.declared.conditions.Cond.{Cond}
 use Rattle.condition_syntax.specs.declared.expressions.Expr.{Expr}
 use Rattle.condition_syntax.specs.declared.expressions.ETerm.{ETerm}
 use Rattle.condition_syntax.specs.declared.expressions.Name.{Name}
+use Rattle.ctrl_syntax.specs.Sections.{Rule, Sections}
 use Rattle.ctrl_syntax.specs.declared.syntax.StateLine.{StateLine}
 use Rattle.ctrl_syntax.specs.declared.syntax.SetLine.{SetLine}
 use Rattle.ctrl_syntax.specs.declared.syntax.RuleLine.{RuleLine}
@@ -59,8 +59,8 @@ bracketed false n = n
 unfoldable pub nesting : Condition → ℕ
 nesting always = 0
 nesting never = 0
-nesting (comparison left rel right) = 0
-nesting (delay q) = 0
+nesting (leaf (compares left rel right)) = 0
+nesting (leaf (delayed q)) = 0
 nesting (opposite c) = suc (bracketed (is_conjunction c || is_disjunction c) (nesting c))
 nesting end_of_all = 0
 nesting (all_of c rest) = max (bracketed (is_conjunction c || is_disjunction c) (nesting c)) (nesting rest)
@@ -101,5 +101,23 @@ pub record IsSyntax (s : Syntax) : Type 0 where
   pub each_state : All IsStateLine s.states
   pub rules_to : length s.rules ≤ 16
   pub each_rule : All IsRuleLine s.rules
+  pub window : IsExpr s.window
+  pub rate : IsRateLine s.rate
+
+-- ---- the same limits, of sections
+
+abbrev pub IsGuardWithin : Option Condition → Type 0
+IsGuardWithin None = Unit {0}
+IsGuardWithin (Some c) = IsCondition c
+
+pub record IsRuleWithin (r : Rule) : Type 0 where
+  pub guard : IsGuardWithin r.guard
+  pub each_set : All IsSetLine r.sets
+
+pub record AreSectionsWithin (s : Sections) : Type 0 where
+  pub states_to : length s.states ≤ 8
+  pub each_state : All IsStateLine s.states
+  pub rules_to : length s.rules ≤ 16
+  pub each_rule : All IsRuleWithin s.rules
   pub window : IsExpr s.window
   pub rate : IsRateLine s.rate

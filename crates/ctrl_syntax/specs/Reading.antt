@@ -15,7 +15,8 @@ use Rattle.condition_syntax.specs.declared.expressions.ETerm.{ETerm}
 use Rattle.condition_syntax.specs.declared.faults.Fault.{Fault}
 use Rattle.condition_syntax.specs.Fronts.{stands, says}
 use Rattle.condition_syntax.specs.Refusals.{refusal as fault_refusal}
-use Rattle.condition_syntax.specs.Expressions.{number_of, signed, expr_by}
+use Rattle.condition_syntax.specs.Words.{signed}
+use Rattle.condition_syntax.specs.Expressions.{number_of, expr_by}
 use Rattle.condition_syntax.specs.Conditions.{condition_by}
 use Rattle.condition_syntax.specs.Trees.{Condition}
 use Rattle.ctrl_syntax.specs.declared.syntax.StateLine.{StateLine}

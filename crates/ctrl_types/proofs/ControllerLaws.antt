@@ -10,13 +10,13 @@ use Rattle.std.proofs.lemmas.List.{length-map}
 use Rattle.std.proofs.lemmas.List.Elements.{All-nil, All-cons, All-head, All-tail, All-weaker}
 use Rattle.weighing.specs.Scaled.{IsNum, den_of}
 use Rattle.weighing.specs.declared.scales.Num.{Num}
+use Rattle.condition_tree.proofs.Trees.{each_leaf_gives}
 use Rattle.condition_syntax.specs.Trees as conditions
-use Rattle.condition_syntax.specs.Trees.{Condition}
+use Rattle.condition_syntax.specs.Trees.{Condition, EachDelay, Leaf, LeafDelay}
 use Rattle.condition_syntax.specs.declared.expressions.Expr.{Expr}
 use Rattle.condition_syntax.specs.declared.expressions.ETerm.{ETerm}
 use Rattle.condition_syntax.specs.declared.expressions.Name.{Name}
-use Rattle.condition_syntax.specs.Limits.{EachExpr, EachDelay}
-use Rattle.ctrl_syntax.specs.Limits.{IsExpr, IsRateLine, IsSetLine, IsStateLine}
+use Rattle.ctrl_syntax.specs.Limits.{AreSectionsWithin, IsExpr, IsGuardWithin, IsRateLine, IsRuleWithin, IsSetLine, IsStateLine}
 use Rattle.ctrl_syntax.specs.declared.syntax.StateLine.{StateLine}
 use Rattle.ctrl_syntax.specs.declared.syntax.SetLine.{SetLine}
 use Rattle.ctrl_syntax.specs.declared.syntax.RateLine.{RateLine}
@@ -29,33 +29,28 @@ use Rattle.ctrl_types.specs.declared.expressions.Source.{Source}
 use Rattle.ctrl_types.specs.declared.expressions.Source.TheVariants.{One, State as StateSource, Acked, Lost}
 use Rattle.ctrl_types.specs.Tests as tests
 use Rattle.ctrl_types.specs.Tests.{Test, test_of, comparisons}
-use Rattle.ctrl_types.specs.Limits.{DelaysAre, IsController, IsLin, IsRule, LinsAre, IsSource, NumsAre, TestDelays, no_rule}
+use Rattle.ctrl_types.specs.Limits.{DelaysAre, IsController, IsLin, IsRule, LinsAre, IsSource, NumsAre, no_rule}
 use Rattle.ctrl_types.specs.Names.{lin_of, or_signal, signal_named, source_named, source_of, state_named}
 use Rattle.ctrl_types.specs.Denominators.{least_common}
 use Rattle.ctrl_types.specs.Resolved.{GuardMeans, RuleMeans, greatest_delay, guard_delay, place_of, rules_delay}
 use Rattle.ctrl_types.specs.Resolving.{controller_seen, rule_seen, state_of}
 use Rattle.ctrl_types.specs.Statements.{any_delay, ends_otherwise, in_guard, is_otherwise, is_unfit, numbers, rows_of, sayings}
-use Rattle.ctrl_types.proofs.DenominatorLaws.{is_least_common}
+use Rattle.ctrl_types.proofs.DenominatorLaws.{is_least_common, each_expr_gives}
 use Rattle.ctrl_types.proofs.LimitLaws.{CoefsAre, BothAre, RateExpr, TextExprs, TextNums, lins_to, nums_from, nums_to, pair_at, pairs_from, pairs_length, pairs_to, text_from, text_to}
 use Rattle.ctrl_types.proofs.LoopLaws.{state_within}
 use Rattle.ctrl_types.proofs.MeaningLaws.{Carries, GuardDelays, GuardExprs, RuleExprs, comparisons_kept, guard_delays_from, guard_delays_to}
 use Rattle.ctrl_types.proofs.NameLaws.{AreFound, coefs_are, found_length, lin_is_found}
 use Rattle.ctrl_types.proofs.NameLaws as names
-use Rattle.ctrl_types.proofs.SectionLimits.{AreSectionsWithin, IsGuardWithin, IsRuleWithin}
 use Rattle.ctrl_types.proofs.TextLaws.{IsRead, IsSoundRule}
 
 -- ---- tests of delay
 
 cond_weaker : (P Q : Num → Type 0) → ((q : Num) → P q → Q q) → (c : Condition) → EachDelay P c → EachDelay Q c
-cond_weaker P Q to conditions.always are = tt
-cond_weaker P Q to conditions.never are = tt
-cond_weaker P Q to (conditions.comparison left rel right) are = tt
-cond_weaker P Q to (conditions.delay q) are = to q are
-cond_weaker P Q to (conditions.opposite c) are = cond_weaker P Q to c are
-cond_weaker P Q to conditions.end_of_all are = tt
-cond_weaker P Q to (conditions.all_of c rest) are = (cond_weaker P Q to c are.0, cond_weaker P Q to rest are.1)
-cond_weaker P Q to conditions.end_of_any are = tt
-cond_weaker P Q to (conditions.any_of c rest) are = (cond_weaker P Q to c are.0, cond_weaker P Q to rest are.1)
+cond_weaker P Q to c are = each_leaf_gives (LeafDelay P) (LeafDelay Q) c by are
+  where
+    by : (l : Leaf Expr Num) → LeafDelay P l → LeafDelay Q l
+    by (conditions.compares left rel right) is = tt
+    by (conditions.delayed q) is = to q is
 
 abbrev RowsTo : ℕ → Num → Type 0
 RowsTo m q = rows_of q ≤ m
@@ -72,8 +67,8 @@ rows_up a b le c are = cond_weaker (RowsTo a) (RowsTo b) (λ q within. omega ari
 greatest : (k : ℕ) (c : Condition) → IsGreatest k (λ m. EachDelay (RowsTo m) c) (greatest_delay k c)
 greatest k conditions.always = record { start = omega arith; reached = tt; least = λ m start reached. start }
 greatest k conditions.never = record { start = omega arith; reached = tt; least = λ m start reached. start }
-greatest k (conditions.comparison left rel right) = record { start = omega arith; reached = tt; least = λ m start reached. start }
-greatest k (conditions.delay q) = record { start = omega arith; reached = omega arith; least = λ m start reached. omega arith }
+greatest k (conditions.leaf (conditions.compares left rel right)) = record { start = omega arith; reached = tt; least = λ m start reached. start }
+greatest k (conditions.leaf (conditions.delayed q)) = record { start = omega arith; reached = omega arith; least = λ m start reached. omega arith }
 greatest k (conditions.opposite c) = let is = greatest k c in record { start = is.start; reached = is.reached; least = is.least }
 greatest k conditions.end_of_all = record { start = omega arith; reached = tt; least = λ m start reached. start }
 greatest k (conditions.all_of c rest) =
@@ -132,8 +127,8 @@ fit_rows q e = let few = or_right (not (unsigned_abs q.num % den_of q == 0)) (na
 fit : (c : Condition) → any_delay is_unfit c ≡ false → EachDelay (RowsTo 8) c
 fit conditions.always e = tt
 fit conditions.never e = tt
-fit (conditions.comparison left rel right) e = tt
-fit (conditions.delay q) e = fit_rows q e
+fit (conditions.leaf (conditions.compares left rel right)) e = tt
+fit (conditions.leaf (conditions.delayed q)) e = fit_rows q e
 fit (conditions.opposite c) e = fit c e
 fit conditions.end_of_all e = tt
 fit (conditions.all_of c rest) e = (fit c (or_left (any_delay is_unfit c) (any_delay is_unfit rest) e), fit rest (or_right (any_delay is_unfit c) (any_delay is_unfit rest) e))
@@ -189,20 +184,9 @@ carries_lins states = record {
 -- ---- the limits of a text
 
 module _ (E : Expr → Type 0) (to : (expr : Expr) → IsExpr expr → E expr) where
-  cond_from_limits : (c : Condition) → EachExpr IsExpr c → EachExpr E c
-  cond_from_limits conditions.always are = tt
-  cond_from_limits conditions.never are = tt
-  cond_from_limits (conditions.comparison left rel right) are = (to left are.0, to right are.1)
-  cond_from_limits (conditions.delay q) are = tt
-  cond_from_limits (conditions.opposite c) are = cond_from_limits c are
-  cond_from_limits conditions.end_of_all are = tt
-  cond_from_limits (conditions.all_of c rest) are = (cond_from_limits c are.0, cond_from_limits rest are.1)
-  cond_from_limits conditions.end_of_any are = tt
-  cond_from_limits (conditions.any_of c rest) are = (cond_from_limits c are.0, cond_from_limits rest are.1)
-
   guard_from_limits : (g : Option Condition) → IsGuardWithin g → GuardExprs E g
   guard_from_limits None is = tt
-  guard_from_limits (Some c) is = cond_from_limits c is.each_expr
+  guard_from_limits (Some c) is = each_expr_gives IsExpr E to c is.each_expr
 
   rule_from_limits : (r : WrittenRule) → IsRuleWithin r → RuleExprs E r
   rule_from_limits r is = record {
@@ -275,12 +259,12 @@ module _ (sections : Sections) (is : AreSectionsWithin sections) (c : Controller
 
   delays_to : (P : ℕ → Type 0) → All (λ (r : WrittenRule). GuardDelays P r.guard) sections.rules → DelaysAre P c
   delays_to P are =
-      pairs_to (RuleMeans sections.states) (λ (r : WrittenRule). GuardDelays P r.guard) (λ (rule : Rule). TestDelays P (test_of rule.guard))
+      pairs_to (RuleMeans sections.states) (λ (r : WrittenRule). GuardDelays P r.guard) (λ (rule : Rule). EachDelay P (test_of rule.guard))
       (λ l r means delays. guard_delays_to sections.states P l.guard (test_of r.guard) means.guard delays) sections.rules c.rules read.resolves.rules are
 
   delays_from : (P : ℕ → Type 0) → DelaysAre P c → All (λ (r : WrittenRule). GuardDelays P r.guard) sections.rules
   delays_from P are =
-      pairs_from (RuleMeans sections.states) (IsRuleWithin) (λ (r : WrittenRule). GuardDelays P r.guard) (λ (rule : Rule). TestDelays P (test_of rule.guard))
+      pairs_from (RuleMeans sections.states) (IsRuleWithin) (λ (r : WrittenRule). GuardDelays P r.guard) (λ (rule : Rule). EachDelay P (test_of rule.guard))
       (λ l r means line delays. guard_delays_from sections.states P l.guard (test_of r.guard) means.guard delays) sections.rules c.rules read.resolves.rules is.each_rule are
 
   pub controller_is : IsController c

@@ -12,9 +12,13 @@ use Rattle.weighing.specs.Scaled.{IsNum, den_of, common}
 use Rattle.weighing.specs.declared.scales.Num.{Num}
 use Rattle.std.specs.List.{fold}
 use Rattle.std.proofs.lemmas.List.Sums.{fold-append}
-use Rattle.std.proofs.lemmas.List.Elements.{All-nil, All-cons, All-head, All-tail}
+use Rattle.std.proofs.lemmas.List.Elements.{All-append, All-nil, All-cons, All-head, All-tail}
 use Rattle.std.proofs.lemmas.Nat.Gcd.{dvd_refl, dvd_trans, le_of_dvd}
-use Rattle.ctrl_types.specs.Denominators.{IsScale, least_common, with_number, with_numbers}
+use Rattle.condition_tree.proofs.Trees.{each_leaf_gives}
+use Rattle.condition_syntax.specs.Trees.{Condition, EachExpr, Leaf, LeafExprs, always, never, leaf, compares, delayed, opposite, end_of_all, all_of, end_of_any, any_of}
+use Rattle.condition_syntax.specs.declared.expressions.Expr.{Expr}
+use Rattle.ctrl_types.specs.Statements.{coefs, condition_numbers}
+use Rattle.ctrl_types.specs.Denominators.{IsLeastCommon, IsScale, least_common, with_number, with_numbers}
 
 -- ---- a step
 
@@ -167,13 +171,30 @@ least_divides (n ∷ nums) s m from each start divides =
     let next = is_next s n from (All-head IsNum n nums each) in
     least_divides nums (common s n) m next.some (All-tail IsNum n nums each) (next.least.2 m start (All-head (Divides m) n nums divides)) (All-tail (Divides m) n nums divides)
 
-pub record IsLeastCommon (nums : List Num) (l : ℕ) : Type 0 where
-  pub common : All (λ n. den_of n ∣ l) nums
-  pub least : (m : ℕ) → All (λ n. den_of n ∣ m) nums → l ∣ m
-
 pub is_least_common : (nums : List Num) → All IsNum nums → IsLeastCommon nums (least_common nums)
 unfolding least_common
 is_least_common nums each = record {
   common = (multiple nums 1 (omega arith) each).of_nums;
   least = λ m divides. least_divides nums 1 m (omega arith) each (one-dvd m) divides;
 }
+
+-- ---- the numbers of a condition
+
+pub each_expr_gives : (E F : Expr → Type 0) → ((expr : Expr) → E expr → F expr) → (c : Condition) → EachExpr E c → EachExpr F c
+each_expr_gives E F to c are = each_leaf_gives (LeafExprs E) (LeafExprs F) c by are
+  where
+    by : (l : Leaf Expr Num) → LeafExprs E l → LeafExprs F l
+    by (compares left rel right) is = (to left is.0, to right is.1)
+    by (delayed q) is = tt
+
+-- what holds of the numbers of each expression holds of all
+pub numbers_are : (P : Num → Type 0) (c : Condition) → EachExpr (λ expr. All P (coefs expr.terms)) c → All P (condition_numbers c)
+numbers_are P always are = All-nil P
+numbers_are P never are = All-nil P
+numbers_are P (leaf (compares left rel right)) are = All-append P (coefs left.terms) (coefs right.terms) are.0 are.1
+numbers_are P (leaf (delayed q)) are = All-nil P
+numbers_are P (opposite c) are = numbers_are P c are
+numbers_are P end_of_all are = All-nil P
+numbers_are P (all_of c rest) are = All-append P (condition_numbers c) (condition_numbers rest) (numbers_are P c are.0) (numbers_are P rest are.1)
+numbers_are P end_of_any are = All-nil P
+numbers_are P (any_of c rest) are = All-append P (condition_numbers c) (condition_numbers rest) (numbers_are P c are.0) (numbers_are P rest are.1)

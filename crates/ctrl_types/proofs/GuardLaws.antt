@@ -108,8 +108,8 @@ pub gate_agrees : (states : List StateLine) (c : Condition) (s : Survey) → Agr
 unfolding gate_by
 gate_agrees states conditions.always s = fine (tests.always, s) (nothing_seen states conditions.always tests.always s resolved.always refl refl refl refl)
 gate_agrees states conditions.never s = fine (tests.never, s) (nothing_seen states conditions.never tests.never s resolved.never refl refl refl refl)
-gate_agrees states (conditions.comparison left rel right) s = comparison_agrees states left right rel s
-gate_agrees states (conditions.delay q) s = fine (tests.delay (rows_of q), with_delay q s) (delay_seen states q s)
+gate_agrees states (conditions.leaf (conditions.compares left rel right)) s = comparison_agrees states left right rel s
+gate_agrees states (conditions.leaf (conditions.delayed q)) s = fine (tests.delay (rows_of q), with_delay q s) (delay_seen states q s)
 gate_agrees states (conditions.opposite c) s =
     agrees_map (gate_agrees states c s)
     (λ t seen. fine (tests.opposite t.0, t.1) (record { means = resolved.opposite seen.means; mixed = seen.mixed; unfit = seen.unfit; delay_max = seen.delay_max; den = seen.den }))

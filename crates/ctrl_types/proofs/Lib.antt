@@ -4,6 +4,7 @@ mod LoopLaws
 mod LineLoops
 pub mod Agreement
 mod NameLaws
+pub mod KindLaws
 mod GuardLaws
 mod ScopeLaws
 mod StateLaws
@@ -14,5 +15,5 @@ pub mod FirstLaws
 mod MeaningLaws
 mod LimitLaws
 mod ControllerLaws
-mod ResolveLaws
+pub mod ResolveLaws
 pub mod SameController

@@ -5,10 +5,9 @@ use Rattle.std.specs.List.{flat_map, AllZip}
 use Rattle.std.proofs.lemmas.List.Elements.{All-nil, All-cons, All-head, All-tail, All-append, All-map}
 use Rattle.weighing.specs.declared.scales.Num.{Num}
 use Rattle.condition_syntax.specs.Trees as conditions
-use Rattle.condition_syntax.specs.Trees.{Condition}
+use Rattle.condition_syntax.specs.Trees.{Condition, EachExpr}
 use Rattle.condition_syntax.specs.declared.expressions.Expr.{Expr}
 use Rattle.condition_syntax.specs.declared.expressions.ETerm.{ETerm}
-use Rattle.condition_syntax.specs.Limits.{EachExpr}
 use Rattle.ctrl_syntax.specs.declared.syntax.StateLine.{StateLine}
 use Rattle.ctrl_syntax.specs.declared.syntax.SetLine.{SetLine}
 use Rattle.ctrl_syntax.specs.declared.syntax.RateLine.{RateLine}
@@ -22,6 +21,7 @@ use Rattle.ctrl_types.specs.Limits.{LinsAre, NumsAre, OptionalLin, RuleLins}
 use Rattle.ctrl_types.specs.Resolved.{RateMeans, RuleMeans}
 use Rattle.ctrl_types.specs.Resolving.{SeenRule, controller_seen, rule_seen, state_of}
 use Rattle.ctrl_types.specs.Statements.{Saying, state, rule, assignment, window, rate, coefs, condition_numbers, guard_numbers, is_empty, numbers, rate_sayings, rule_sayings, sayings, set_sayings, state_sayings}
+use Rattle.ctrl_types.proofs.DenominatorLaws.{numbers_are}
 use Rattle.ctrl_types.proofs.NameLaws.{AreFound, coefs_are, found_length, lin_is_found}
 use Rattle.ctrl_types.proofs.NameLaws as names
 use Rattle.ctrl_types.proofs.MeaningLaws.{Carries, GuardExprs, RuleExprs, rule_exprs, rule_lins}
@@ -200,22 +200,11 @@ module _ (P : Num → Type 0) where
       All-cons (λ (l : SetLine). CoefsAre P l.expr) s sets (All-head SaysNums (assignment earlier s) (set_sayings (earlier ++ s ∷ []) sets) all)
       (sets_from (earlier ++ s ∷ []) sets (All-tail SaysNums (assignment earlier s) (set_sayings (earlier ++ s ∷ []) sets) all))
 
-  cond_to : (c : Condition) → EachExpr (CoefsAre P) c → All P (condition_numbers c)
-  cond_to conditions.always are = All-nil P
-  cond_to conditions.never are = All-nil P
-  cond_to (conditions.comparison left rel right) are = All-append P (coefs left.terms) (coefs right.terms) are.0 are.1
-  cond_to (conditions.delay q) are = All-nil P
-  cond_to (conditions.opposite c) are = cond_to c are
-  cond_to conditions.end_of_all are = All-nil P
-  cond_to (conditions.all_of c rest) are = All-append P (condition_numbers c) (condition_numbers rest) (cond_to c are.0) (cond_to rest are.1)
-  cond_to conditions.end_of_any are = All-nil P
-  cond_to (conditions.any_of c rest) are = All-append P (condition_numbers c) (condition_numbers rest) (cond_to c are.0) (cond_to rest are.1)
-
   cond_from : (c : Condition) → All P (condition_numbers c) → EachExpr (CoefsAre P) c
   cond_from conditions.always all = tt
   cond_from conditions.never all = tt
-  cond_from (conditions.comparison left rel right) all = (all_left P (coefs left.terms) (coefs right.terms) all, all_right P (coefs left.terms) (coefs right.terms) all)
-  cond_from (conditions.delay q) all = tt
+  cond_from (conditions.leaf (conditions.compares left rel right)) all = (all_left P (coefs left.terms) (coefs right.terms) all, all_right P (coefs left.terms) (coefs right.terms) all)
+  cond_from (conditions.leaf (conditions.delayed q)) all = tt
   cond_from (conditions.opposite c) all = cond_from c all
   cond_from conditions.end_of_all all = tt
   cond_from (conditions.all_of c rest) all = (cond_from c (all_left P (condition_numbers c) (condition_numbers rest) all), cond_from rest (all_right P (condition_numbers c) (condition_numbers rest) all))
@@ -224,7 +213,7 @@ module _ (P : Num → Type 0) where
 
   guard_to : (g : Option Condition) → GuardExprs (CoefsAre P) g → All P (guard_numbers g)
   guard_to None are = All-nil P
-  guard_to (Some c) are = cond_to c are
+  guard_to (Some c) are = numbers_are P c are
 
   guard_from : (g : Option Condition) → All P (guard_numbers g) → GuardExprs (CoefsAre P) g
   guard_from None all = tt

@@ -5,16 +5,15 @@ use Rattle.std.specs.List.{list_any, find}
 use Rattle.std.specs.Option.{option_and_then}
 use Rattle.std.proofs.lemmas.List.Elements.{All-nil, All-cons, All-head, All-tail}
 use Rattle.condition_syntax.specs.Trees as conditions
-use Rattle.condition_syntax.specs.Trees.{Condition}
+use Rattle.condition_syntax.specs.Trees.{Condition, EachExpr, EachDelay}
 use Rattle.condition_syntax.specs.declared.expressions.Expr.{Expr}
-use Rattle.condition_syntax.specs.Limits.{EachExpr, EachDelay}
 use Rattle.ctrl_syntax.specs.declared.syntax.StateLine.{StateLine}
 use Rattle.ctrl_syntax.specs.declared.syntax.SetLine.{SetLine}
 use Rattle.ctrl_syntax.specs.Sections.{Rule as WrittenRule}
 use Rattle.ctrl_types.specs.declared.controllers.Rule.{Rule}
 use Rattle.ctrl_types.specs.declared.expressions.Lin.{Lin}
 use Rattle.ctrl_types.specs.Tests.{Test, test_of, comparisons}
-use Rattle.ctrl_types.specs.Limits.{OptionalLin, RuleLins, TestDelays, TestLins}
+use Rattle.ctrl_types.specs.Limits.{OptionalLin, RuleLins}
 use Rattle.ctrl_types.specs.Names.{lin_of, state_named}
 use Rattle.ctrl_types.specs.Resolved as resolved
 use Rattle.ctrl_types.specs.Resolved.{GuardMeans, Means, RuleMeans, greatest_delay, guard_delay, place_of, rules_delay}
@@ -44,7 +43,7 @@ GuardDelays P None = Unit {0}
 GuardDelays P (Some c) = EachDelay (λ q. P (rows_of q)) c
 
 module _ (states : List StateLine) (E : Expr → Type 0) (Q : Lin → Type 0) (carries : Carries states E Q) where
-  test_lins : {c : Condition} {t : Test} → Means states c t → EachExpr E c → TestLins Q t
+  test_lins : {c : Condition} {t : Test} → Means states c t → EachExpr E c → EachExpr Q t
   test_lins resolved.always are = tt
   test_lins resolved.never are = tt
   test_lins (resolved.comparison {left} {right} {x} {y} rel one two) are = (carries.to true left x one are.0, carries.to true right y two are.1)
@@ -55,7 +54,7 @@ module _ (states : List StateLine) (E : Expr → Type 0) (Q : Lin → Type 0) (c
   test_lins resolved.end_of_any are = tt
   test_lins (resolved.any_of means rest) are = (test_lins means are.0, test_lins rest are.1)
 
-  cond_exprs : {c : Condition} {t : Test} → Means states c t → TestLins Q t → EachExpr E c
+  cond_exprs : {c : Condition} {t : Test} → Means states c t → EachExpr Q t → EachExpr E c
   cond_exprs resolved.always are = tt
   cond_exprs resolved.never are = tt
   cond_exprs (resolved.comparison {left} {right} {x} {y} rel one two) are = (carries.from true left x one are.0, carries.from true right y two are.1)
@@ -68,11 +67,11 @@ module _ (states : List StateLine) (E : Expr → Type 0) (Q : Lin → Type 0) (c
 
   -- ---- guards
 
-  guard_lins : (g : Option Condition) (t : Test) → GuardMeans states g t → GuardExprs E g → TestLins Q t
-  guard_lins None t means are = subst (TestLins Q) (sym means) tt
+  guard_lins : (g : Option Condition) (t : Test) → GuardMeans states g t → GuardExprs E g → EachExpr Q t
+  guard_lins None t means are = subst (EachExpr Q) (sym means) tt
   guard_lins (Some c) t means are = test_lins means are
 
-  guard_exprs : (g : Option Condition) (t : Test) → GuardMeans states g t → TestLins Q t → GuardExprs E g
+  guard_exprs : (g : Option Condition) (t : Test) → GuardMeans states g t → EachExpr Q t → GuardExprs E g
   guard_exprs None t means are = tt
   guard_exprs (Some c) t means are = cond_exprs means are
 
@@ -146,7 +145,7 @@ module _ (states : List StateLine) (E : Expr → Type 0) (Q : Lin → Type 0) (c
 -- ---- numbers of rows
 
 module _ (states : List StateLine) (P : ℕ → Type 0) where
-  test_delays : {c : Condition} {t : Test} → Means states c t → EachDelay (λ q. P (rows_of q)) c → TestDelays P t
+  test_delays : {c : Condition} {t : Test} → Means states c t → EachDelay (λ q. P (rows_of q)) c → EachDelay P t
   test_delays resolved.always are = tt
   test_delays resolved.never are = tt
   test_delays (resolved.comparison rel one two) are = tt
@@ -157,7 +156,7 @@ module _ (states : List StateLine) (P : ℕ → Type 0) where
   test_delays resolved.end_of_any are = tt
   test_delays (resolved.any_of means rest) are = (test_delays means are.0, test_delays rest are.1)
 
-  cond_delays : {c : Condition} {t : Test} → Means states c t → TestDelays P t → EachDelay (λ q. P (rows_of q)) c
+  cond_delays : {c : Condition} {t : Test} → Means states c t → EachDelay P t → EachDelay (λ q. P (rows_of q)) c
   cond_delays resolved.always are = tt
   cond_delays resolved.never are = tt
   cond_delays (resolved.comparison rel one two) are = tt
@@ -168,11 +167,11 @@ module _ (states : List StateLine) (P : ℕ → Type 0) where
   cond_delays resolved.end_of_any are = tt
   cond_delays (resolved.any_of means rest) are = (cond_delays means are.0, cond_delays rest are.1)
 
-  pub guard_delays_to : (g : Option Condition) (t : Test) → GuardMeans states g t → GuardDelays P g → TestDelays P t
-  guard_delays_to None t means are = subst (TestDelays P) (sym means) tt
+  pub guard_delays_to : (g : Option Condition) (t : Test) → GuardMeans states g t → GuardDelays P g → EachDelay P t
+  guard_delays_to None t means are = subst (EachDelay P) (sym means) tt
   guard_delays_to (Some c) t means are = test_delays means are
 
-  pub guard_delays_from : (g : Option Condition) (t : Test) → GuardMeans states g t → TestDelays P t → GuardDelays P g
+  pub guard_delays_from : (g : Option Condition) (t : Test) → GuardMeans states g t → EachDelay P t → GuardDelays P g
   guard_delays_from None t means are = tt
   guard_delays_from (Some c) t means are = cond_delays means are
 

@@ -1,20 +1,22 @@
 -- The clauses of resolving, from what is read and what is asked.
-use Rattle.std.proofs.Common.{◌≡◌, Result, Ok, Err, refl, subst}
+use Rattle.std.proofs.Common.{◌≡◌, ℕ, List, ◌⊎◌, inl, inr, Result, Ok, Err, refl, subst}
 use Rattle.std.specs.Prelude.{IfOk, OnOk, IsErrOf, IsOkUnless}
 use Rattle.weighing.specs.First.{first}
 use Rattle.whole.specs.declared.answers.ReadFault.{ReadFault}
 use Rattle.whole.specs.declared.answers.ReadFault.TheVariants.{Refused, NoMemory}
 use Rattle.whole.specs.declared.answers.Refusal.{Refusal}
+use Rattle.ctrl_syntax.specs.Grammar.{IsText}
+use Rattle.ctrl_syntax.proofs.LimitLaws.{sections_within}
+use Rattle.ctrl_syntax.specs.Limits.{AreSectionsWithin}
 use Rattle.ctrl_syntax.specs.Sections.{Sections}
 use Rattle.ctrl_types.specs.declared.controllers.Controller.{Controller}
 use Rattle.ctrl_types.specs.Limits.{IsController}
-use Rattle.ctrl_types.specs.Resolved.{RefusesUnless, Resolves}
+use Rattle.ctrl_types.specs.Resolved.{RefusesUnless, Resolves, SeenResolves}
 use Rattle.ctrl_types.specs.Resolving.{GivesSeenUnless, SeenController, controller_by, controller_seen}
 use Rattle.ctrl_types.specs.Statements.{IsFirstBroken, IsUnbroken, statements}
 use Rattle.ctrl_types.proofs.Agreement.{Agrees, fine, stops, judged}
 use Rattle.ctrl_types.proofs.ControllerLaws.{controller_is}
 use Rattle.ctrl_types.proofs.FirstLaws.{broken_again, first_broken, unbroken, unbroken_again}
-use Rattle.ctrl_types.proofs.SectionLimits.{AreSectionsWithin}
 use Rattle.ctrl_types.proofs.TextLaws.{IsRead, text_agrees}
 
 -- where a value is read, nothing is refused
@@ -36,6 +38,14 @@ module _ (sections : Sections) (is : AreSectionsWithin sections) where
 
   refused_is : (r : Refusal) → controller_by sections ≡ Err r → first (judged sections.states) (statements sections) ≡ Err r
   refused_is r e = agrees_err r (text_agrees sections is) e
+
+  -- where no statement breaks a rule, there is a controller
+  pub some_is : IsUnbroken sections → (c : SeenController) × SeenResolves sections c
+  some_is whole = by (controller_by sections) (first (judged sections.states) (statements sections)) (text_agrees sections is) (unbroken_again sections whole)
+    where
+      by : (r : Result SeenController Refusal) (t : Result (Unit {0}) Refusal) → Agrees (IsRead sections) r t → t ≡ Ok tt → (c : SeenController) × SeenResolves sections c
+      by _ _ (fine c read) e = (c, read.resolves)
+      by _ _ (stops r) e = absurd (cc)
 
   pub found_is : (result : Result Controller ReadFault) → GivesSeenUnless controller_seen result (controller_by sections) → IfOk result (λ c. Resolves sections c)
   found_is (Ok c) gives = (fine_is (controller_seen c) gives).holds.resolves
@@ -65,3 +75,14 @@ module _ (sections : Sections) (is : AreSectionsWithin sections) where
   refuses_is (Ok c) gives r broken = let one = (fine_is (controller_seen c) gives).passed in let two = broken_again sections r broken in absurd (cc)
   refuses_is (Err NoMemory) gives r broken = tt
   refuses_is (Err (Refused s)) gives r broken = let one = refused_is s gives in let two = broken_again sections r broken in cc
+
+-- a text's statements break no rule, or one of them breaks one first
+pub either_statements : (sections : Sections) → IsUnbroken sections ⊎ ((r : Refusal) × IsFirstBroken sections r)
+either_statements sections = by (first (judged sections.states) (statements sections)) refl
+  where
+    by : (t : Result (Unit {0}) Refusal) → first (judged sections.states) (statements sections) ≡ t → IsUnbroken sections ⊎ ((r : Refusal) × IsFirstBroken sections r)
+    by (Ok done) e = inl (unbroken sections e)
+    by (Err r) e = inr (r, first_broken sections r e)
+
+pub some_controller : (bytes : List ℕ) (sections : Sections) → IsText bytes sections → IsUnbroken sections → (c : SeenController) × SeenResolves sections c
+some_controller bytes sections spelled whole = some_is sections (sections_within bytes sections spelled) whole

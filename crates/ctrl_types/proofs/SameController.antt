@@ -24,8 +24,8 @@ lin_or (Some lin) = lin
 abbrev meaning : List StateLine → Condition → Test
 meaning states conditions.always = tests.always
 meaning states conditions.never = tests.never
-meaning states (conditions.comparison left rel right) = tests.comparison (lin_or (lin_of states true left)) rel (lin_or (lin_of states true right))
-meaning states (conditions.delay q) = tests.delay (rows_of q)
+meaning states (conditions.leaf (conditions.compares left rel right)) = tests.comparison (lin_or (lin_of states true left)) rel (lin_or (lin_of states true right))
+meaning states (conditions.leaf (conditions.delayed q)) = tests.delay (rows_of q)
 meaning states (conditions.opposite c) = tests.opposite (meaning states c)
 meaning states conditions.end_of_all = tests.end_of_all
 meaning states (conditions.all_of c rest) = tests.all_of (meaning states c) (meaning states rest)

@@ -2,15 +2,13 @@
 use Rattle.std.proofs.Common.{◌≡◌, ℕ, Bool, true, false, ◌||◌, ◌&&◌, not, Option, Some, None, Result, Ok, List, [], ◌∷◌, ◌++◌, map, refl, sym, ap, subst, ◌∙◌}
 use Rattle.std.specs.Prelude.{All, is_none, is_some, slice_get, slice_set}
 use Rattle.std.specs.List.{list_any}
-use Rattle.std.proofs.lemmas.List.Elements.{All-nil, All-cons, All-append}
+use Rattle.std.proofs.lemmas.List.Elements.{All-nil, All-cons}
 use Rattle.weighing.specs.First.{and_then}
 use Rattle.weighing.specs.Scaled.{IsNum}
 use Rattle.weighing.specs.declared.scales.Num.{Num}
-use Rattle.condition_syntax.specs.Trees as conditions
-use Rattle.condition_syntax.specs.Trees.{Condition}
+use Rattle.condition_syntax.specs.Trees.{Condition, EachExpr}
 use Rattle.condition_syntax.specs.declared.expressions.Expr.{Expr}
-use Rattle.condition_syntax.specs.Limits.{EachExpr}
-use Rattle.ctrl_syntax.specs.Limits.{IsStateLine, IsSetLine, IsExpr}
+use Rattle.ctrl_syntax.specs.Limits.{IsExpr, IsGuardWithin, IsSetLine, IsStateLine}
 use Rattle.ctrl_syntax.specs.declared.syntax.StateLine.{StateLine}
 use Rattle.ctrl_syntax.specs.declared.syntax.SetLine.{SetLine}
 use Rattle.ctrl_syntax.specs.declared.syntax.RateLine.{RateLine}
@@ -29,10 +27,9 @@ use Rattle.ctrl_types.specs.Resolved.{GuardMeans, guard_delay, greatest_delay, p
 use Rattle.ctrl_types.specs.Resolving.{Places, bound_by, condition_by, demand, guard_by, is_filled, lin_has, lin_numbers, set_by, set_mixes, state_by, state_of, surveyed, survey_from, wanted, with_lin}
 use Rattle.ctrl_types.specs.Statements.{Saying, Statement, state, rule, assignment, window, rate, any_comparison, any_delay, coefs, condition_numbers, ends_otherwise, guard_numbers, in_guard, is_above, is_unfit, mixed_sides, numbers, passes_limit, sets_name}
 use Rattle.ctrl_types.proofs.Agreement.{Agrees, fine, agrees_then, agrees_map, agrees_wanted, agrees_weaker, agrees_demand, agrees_same, agrees_or, verdict}
-use Rattle.ctrl_types.proofs.DenominatorLaws.{IsDen, is_joined}
+use Rattle.ctrl_types.proofs.DenominatorLaws.{IsDen, is_joined, each_expr_gives, numbers_are}
 use Rattle.ctrl_types.proofs.NameLaws.{unknown_is, lin_is_found, found_numbers, kinds_are, sets_mix, bounds_mix, coefs_are}
 use Rattle.ctrl_types.proofs.GuardLaws.{gate_agrees}
-use Rattle.ctrl_types.proofs.SectionLimits.{IsGuardWithin}
 use Rattle.ctrl_types.proofs.StateLaws.{AreDistinct, AreResolved, filled_is, filled_with, resolved_push}
 
 abbrev pub said : Saying → List Num → Statement
@@ -112,16 +109,7 @@ pub record IsGuarded (states : List StateLine) (g : Option Condition) (totals : 
   pub den : IsDen (before ++ guard_numbers g) x.1.den
 
 cond_numbers : (c : Condition) → EachExpr IsExpr c → All IsNum (condition_numbers c)
-cond_numbers conditions.always each = All-nil IsNum
-cond_numbers conditions.never each = All-nil IsNum
-cond_numbers (conditions.comparison left rel right) each =
-    All-append IsNum (coefs left.terms) (coefs right.terms) (coefs_are left.terms each.0.each_term) (coefs_are right.terms each.1.each_term)
-cond_numbers (conditions.delay q) each = All-nil IsNum
-cond_numbers (conditions.opposite c) each = cond_numbers c each
-cond_numbers conditions.end_of_all each = All-nil IsNum
-cond_numbers (conditions.all_of c rest) each = All-append IsNum (condition_numbers c) (condition_numbers rest) (cond_numbers c each.0) (cond_numbers rest each.1)
-cond_numbers conditions.end_of_any each = All-nil IsNum
-cond_numbers (conditions.any_of c rest) each = All-append IsNum (condition_numbers c) (condition_numbers rest) (cond_numbers c each.0) (cond_numbers rest each.1)
+cond_numbers c each = numbers_are IsNum c (each_expr_gives IsExpr (λ expr. All IsNum (coefs expr.terms)) (λ expr is. coefs_are expr.terms is.each_term) c each)
 
 -- what a survey in which nothing is wrong leaves
 record IsLeft (tree : Condition) (totals : Totals) (before : List Num) (x : Totals) : Type 0 where

@@ -8,7 +8,7 @@ use Rattle.weighing.specs.First.{and_then, first}
 use Rattle.weighing.specs.declared.scales.Num.{Num}
 use Rattle.weighing.proofs.Events.{first-append}
 use Rattle.whole.specs.declared.answers.Refusal.{Refusal}
-use Rattle.ctrl_syntax.specs.Limits.{IsStateLine, IsSetLine, IsRateLine}
+use Rattle.ctrl_syntax.specs.Limits.{AreSectionsWithin, IsRateLine, IsRuleWithin, IsSetLine, IsStateLine}
 use Rattle.ctrl_syntax.specs.declared.syntax.StateLine.{StateLine}
 use Rattle.ctrl_syntax.specs.declared.syntax.SetLine.{SetLine}
 use Rattle.ctrl_syntax.specs.declared.syntax.RateLine.{RateLine}
@@ -23,7 +23,6 @@ use Rattle.ctrl_types.specs.Resolving.{Places, SeenController, SeenRule, control
 use Rattle.ctrl_types.specs.Statements.{Saying, Statement, rule, assignment, window, any_delay, ends_otherwise, guard_numbers, in_guard, is_empty, is_unfit, sets_name, numbers, placed, rate_sayings, rule_sayings, sayings, set_sayings, state_sayings, statements}
 use Rattle.ctrl_types.proofs.Agreement.{Agrees, fine, agrees_then, agrees_map, agrees_weaker, agrees_line, judged}
 use Rattle.ctrl_types.proofs.DenominatorLaws.{IsDen}
-use Rattle.ctrl_types.proofs.SectionLimits.{AreSectionsWithin, IsRuleWithin}
 use Rattle.ctrl_types.proofs.StateLaws.{AreApart, AreDistinct, AreResolved, distinct, nothing_set, or_right}
 use Rattle.ctrl_types.proofs.StatementLaws.{guard_agrees, rate_agrees, set_agrees, state_agrees, window_agrees}
 

@@ -1,7 +1,8 @@
 -- The least common multiple of denominators, which may not pass 1,000,000.
-use Rattle.std.specs.Prelude.{ℕ, ◌≤◌, List, nat_le, if◌then◌else◌, Option, None, Some}
+use Rattle.std.specs.Prelude.{ℕ, ◌≤◌, List, nat_le, if◌then◌else◌, Option, None, Some, All}
 use Rattle.std.specs.List.{fold}
-use Rattle.weighing.specs.Scaled.{common}
+use Rattle.std.specs.Int.{◌∣◌}
+use Rattle.weighing.specs.Scaled.{common, den_of}
 use Rattle.weighing.specs.declared.scales.Num.{Num}
 
 pub record IsScale (s : ℕ) : Type 0 where
@@ -11,6 +12,11 @@ pub record IsScale (s : ℕ) : Type 0 where
 -- the least common multiple of the numbers' denominators, as they are written
 unfoldable pub least_common : List Num → ℕ
 least_common nums = fold common 1 nums
+
+-- each denominator divides the number, and the number divides each such number
+pub record IsLeastCommon (nums : List Num) (l : ℕ) : Type 0 where
+  pub common : All (λ n. den_of n ∣ l) nums
+  pub least : (m : ℕ) → All (λ n. den_of n ∣ m) nums → l ∣ m
 
 -- the least common multiple with one number more, if it isn't past the limit
 abbrev pub joined : ℕ → Num → Option ℕ

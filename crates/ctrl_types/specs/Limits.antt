@@ -4,7 +4,7 @@ use Rattle.std.specs.Int.{◌∣◌}
 use Rattle.std.proofs.Common.{get_or}
 use Rattle.weighing.specs.Scaled.{IsNum, den_of}
 use Rattle.weighing.specs.declared.scales.Num.{Num}
-use Rattle.ctrl_types.specs.Tests.{Test, always, never, comparison, delay, opposite, end_of_all, all_of, end_of_any, any_of, comparisons, test_of}
+use Rattle.ctrl_types.specs.Tests.{EachDelay, EachExpr, always, comparisons, test_of}
 use Rattle.ctrl_types.specs.declared.expressions.Lin.{Lin}
 use Rattle.ctrl_types.specs.declared.expressions.Source.{Source}
 use Rattle.ctrl_types.specs.declared.expressions.Source.TheVariants.{One, State as StateSource, Acked, Lost}
@@ -12,36 +12,12 @@ use Rattle.ctrl_types.specs.declared.gates.Gate.TheVariants.{True}
 use Rattle.ctrl_types.specs.declared.controllers.Controller.{Controller}
 use Rattle.ctrl_types.specs.declared.controllers.Rule.{Rule}
 
--- each expression of a condition is such a one
-abbrev pub TestLins : (Lin → Type 0) → Test → Type 0
-TestLins Q always = Unit {0}
-TestLins Q never = Unit {0}
-TestLins Q (comparison left rel right) = Q left × Q right
-TestLins Q (delay k) = Unit {0}
-TestLins Q (opposite t) = TestLins Q t
-TestLins Q end_of_all = Unit {0}
-TestLins Q (all_of t rest) = TestLins Q t × TestLins Q rest
-TestLins Q end_of_any = Unit {0}
-TestLins Q (any_of t rest) = TestLins Q t × TestLins Q rest
-
--- each number of rows in a condition's tests of delay is such a one
-abbrev pub TestDelays : (ℕ → Type 0) → Test → Type 0
-TestDelays P always = Unit {0}
-TestDelays P never = Unit {0}
-TestDelays P (comparison left rel right) = Unit {0}
-TestDelays P (delay k) = P k
-TestDelays P (opposite t) = TestDelays P t
-TestDelays P end_of_all = Unit {0}
-TestDelays P (all_of t rest) = TestDelays P t × TestDelays P rest
-TestDelays P end_of_any = Unit {0}
-TestDelays P (any_of t rest) = TestDelays P t × TestDelays P rest
-
 abbrev pub OptionalLin : (Lin → Type 0) → Option Lin → Type 0
 OptionalLin Q None = Unit {0}
 OptionalLin Q (Some lin) = Q lin
 
 pub record RuleLins (Q : Lin → Type 0) (rule : Rule) : Type 0 where
-  pub guard : TestLins Q (test_of rule.guard)
+  pub guard : EachExpr Q (test_of rule.guard)
   pub sets : All (OptionalLin Q) rule.sets
 
 -- each expression of a controller is such a one
@@ -57,7 +33,7 @@ pub record NumsAre (P : Num → Type 0) (c : Controller) : Type 0 where
 
 -- each number of rows in a controller's tests of delay is such a one
 abbrev pub DelaysAre : (ℕ → Type 0) → Controller → Type 0
-DelaysAre P c = All (λ rule. TestDelays P (test_of rule.guard)) c.rules
+DelaysAre P c = All (λ rule. EachDelay P (test_of rule.guard)) c.rules
 
 -- a term's state is among so many
 abbrev pub IsSource : ℕ → Source → Type 0

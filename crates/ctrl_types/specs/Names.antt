@@ -1,5 +1,5 @@
 -- What the names of a controller stand for, and of what kind that is.
-use Rattle.std.specs.Prelude.{ℕ, List, [], ◌∷◌, Bool, true, false, ◌||◌, ◌&&◌, if◌then◌else◌, codes, slice_get, Option, None, Some, is_none}
+use Rattle.std.specs.Prelude.{◌≡◌, ℕ, List, [], ◌∷◌, Bool, true, false, ◌||◌, ◌&&◌, if◌then◌else◌, codes, slice_get, Option, None, Some, is_none}
 use Rattle.std.specs.List.{list_any, position_from}
 use Rattle.std.specs.Option.{option_map, option_and_then}
 use Rattle.std.specs.Str.{bytes_eq}
@@ -101,6 +101,16 @@ is_kind kind None = false
 -- the kind of a term's name, if it has one that is known
 abbrev pub kind_in : List StateLine → Bool → ETerm → Option Kind
 kind_in states signals t = option_and_then (kind_of states) (source_of states signals t.name)
+
+-- two of the terms have kinds, and different ones
+pub record HaveTwoKinds (kind : ETerm → Option Kind) (terms : List ETerm) : Type 0 where
+  pub i : ℕ
+  pub j : ℕ
+  pub one : Kind
+  pub two : Kind
+  pub one_is : option_and_then kind (slice_get terms i) ≡ Some one
+  pub two_is : option_and_then kind (slice_get terms j) ≡ Some two
+  pub differ : one ≡ two → ⊥
 
 -- whether a known name of the expression has this kind
 unfoldable pub names_kind : List StateLine → Bool → Kind → List ETerm → Bool

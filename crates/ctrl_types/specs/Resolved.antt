@@ -59,8 +59,8 @@ RateMeans states (Some r) (Some lin) = lin_of states false r.expr ≡ Some lin
 abbrev pub greatest_delay : ℕ → Condition → ℕ
 greatest_delay k conditions.always = k
 greatest_delay k conditions.never = k
-greatest_delay k (conditions.comparison left rel right) = k
-greatest_delay k (conditions.delay q) = max k (rows_of q)
+greatest_delay k (conditions.leaf (conditions.compares left rel right)) = k
+greatest_delay k (conditions.leaf (conditions.delayed q)) = max k (rows_of q)
 greatest_delay k (conditions.opposite c) = greatest_delay k c
 greatest_delay k conditions.end_of_all = k
 greatest_delay k (conditions.all_of c rest) = greatest_delay (greatest_delay k c) rest

@@ -7,9 +7,8 @@ use Rattle.whole.specs.declared.answers.ReadFault.{ReadFault}
 use Rattle.whole.specs.declared.answers.ReadFault.TheVariants as faults
 use Rattle.weighing.specs.declared.scales.Num.{Num}
 use Rattle.weighing.specs.declared.weighings.Rel5.{Rel5}
-use Rattle.condition_syntax.specs.Trees.{Condition, always, never, comparison, delay, opposite, end_of_all, all_of, end_of_any, any_of}
+use Rattle.condition_syntax.specs.Trees.{Condition, always, never, leaf, compares, delayed, opposite, end_of_all, all_of, end_of_any, any_of, EachExpr, EachDelay}
 use Rattle.condition_syntax.specs.declared.expressions.Expr.{Expr}
-use Rattle.condition_syntax.specs.Limits.{EachExpr, EachDelay}
 use Rattle.ctrl_syntax.specs.Limits.{IsExpr, IsUnsigned}
 use Rattle.ctrl_syntax.specs.declared.syntax.StateLine.{StateLine}
 use Rattle.ctrl_syntax.specs.declared.syntax.SetLine.{SetLine}
@@ -132,8 +131,8 @@ opposite_of read = read >>= λ t. Ok (tests.opposite t.0, t.1)
 unfoldable pub gate_by : List StateLine → Condition → Survey → Gated
 gate_by states always s = Ok (tests.always, s)
 gate_by states never s = Ok (tests.never, s)
-gate_by states (comparison left rel right) s = comparison_by states left rel right s
-gate_by states (delay q) s = Ok (tests.delay (rows_of q), with_delay q s)
+gate_by states (leaf (compares left rel right)) s = comparison_by states left rel right s
+gate_by states (leaf (delayed q)) s = Ok (tests.delay (rows_of q), with_delay q s)
 gate_by states (opposite c) s = opposite_of (gate_by states c s)
 gate_by states end_of_all s = Ok (tests.end_of_all, s)
 gate_by states (all_of c rest) s = do

@@ -5,7 +5,8 @@ use Rattle.std.specs.Str.{bytes_eq}
 use Rattle.whole.specs.declared.answers.Refusal.{Refusal}
 use Rattle.weighing.specs.Scaled.{den_of}
 use Rattle.weighing.specs.declared.scales.Num.{Num}
-use Rattle.condition_syntax.specs.Trees.{Condition, always, never, comparison, delay, opposite, end_of_all, all_of, end_of_any, any_of}
+use Rattle.condition_tree.specs.Trees.{folded, gathering}
+use Rattle.condition_syntax.specs.Trees.{Condition, Leaf, compares, delayed}
 use Rattle.condition_syntax.specs.declared.expressions.Expr.{Expr}
 use Rattle.condition_syntax.specs.declared.expressions.ETerm.{ETerm}
 use Rattle.ctrl_syntax.specs.declared.syntax.StateLine.{StateLine}
@@ -68,16 +69,12 @@ sayings sections = state_sayings [] sections.states ++ (rule_sayings sections.ru
 abbrev pub coefs : List ETerm → List Num
 coefs terms = map (λ (t : ETerm). t.coef) terms
 
+abbrev pub leaf_numbers : Leaf Expr Num → List Num
+leaf_numbers (compares left rel right) = coefs left.terms ++ coefs right.terms
+leaf_numbers (delayed q) = []
+
 abbrev pub condition_numbers : Condition → List Num
-condition_numbers always = []
-condition_numbers never = []
-condition_numbers (comparison left rel right) = coefs left.terms ++ coefs right.terms
-condition_numbers (delay q) = []
-condition_numbers (opposite c) = condition_numbers c
-condition_numbers end_of_all = []
-condition_numbers (all_of c rest) = condition_numbers c ++ condition_numbers rest
-condition_numbers end_of_any = []
-condition_numbers (any_of c rest) = condition_numbers c ++ condition_numbers rest
+condition_numbers c = folded (gathering [] (λ (ns ms : List Num). ns ++ ms)) leaf_numbers c
 
 abbrev pub guard_numbers : Option Condition → List Num
 guard_numbers None = []
@@ -104,29 +101,24 @@ statements sections = placed [] (sayings sections)
 
 -- ---- conditions
 
+abbrev pub any_leaf : (Leaf Expr Num → Bool) → Condition → Bool
+any_leaf test c = folded (gathering false (λ (a b : Bool). a || b)) test c
+
+abbrev pub of_comparison : (Expr → Expr → Bool) → Leaf Expr Num → Bool
+of_comparison test (compares left rel right) = test left right
+of_comparison test (delayed q) = false
+
 -- whether the test holds of one of a condition's comparisons
 abbrev pub any_comparison : (Expr → Expr → Bool) → Condition → Bool
-any_comparison test always = false
-any_comparison test never = false
-any_comparison test (comparison left rel right) = test left right
-any_comparison test (delay q) = false
-any_comparison test (opposite c) = any_comparison test c
-any_comparison test end_of_all = false
-any_comparison test (all_of c rest) = any_comparison test c || any_comparison test rest
-any_comparison test end_of_any = false
-any_comparison test (any_of c rest) = any_comparison test c || any_comparison test rest
+any_comparison test c = any_leaf (of_comparison test) c
+
+abbrev pub of_delay : (Num → Bool) → Leaf Expr Num → Bool
+of_delay test (compares left rel right) = false
+of_delay test (delayed q) = test q
 
 -- whether the test holds of one of the numbers of a condition's tests of delay
 abbrev pub any_delay : (Num → Bool) → Condition → Bool
-any_delay test always = false
-any_delay test never = false
-any_delay test (comparison left rel right) = false
-any_delay test (delay q) = test q
-any_delay test (opposite c) = any_delay test c
-any_delay test end_of_all = false
-any_delay test (all_of c rest) = any_delay test c || any_delay test rest
-any_delay test end_of_any = false
-any_delay test (any_of c rest) = any_delay test c || any_delay test rest
+any_delay test c = any_leaf (of_delay test) c
 
 -- a number of rows, whole by its value; the part that isn't whole is dropped
 abbrev pub rows_of : Num → ℕ

@@ -1,30 +1,21 @@
 -- The condition that a guard stands for, as a tree of the logic.
-use Rattle.std.specs.Prelude.{ℕ, ◌+◌, List, [], ◌∷◌}
+use Rattle.std.specs.Prelude.{ℕ}
 use Rattle.weighing.specs.declared.weighings.Rel5.{Rel5}
+pub use Rattle.condition_syntax.specs.Trees.{Tree, always, never, leaf, opposite, end_of_all, all_of, end_of_any, any_of, conjunction, disjunction, Leaf, compares, delayed, comparisons, EachExpr, EachDelay}
 use Rattle.ctrl_types.specs.declared.expressions.Lin.{Lin}
 use Rattle.ctrl_types.specs.declared.gates.Gate.{Gate}
 use Rattle.ctrl_types.specs.declared.gates.Gate.TheOpen.{Gate-F}
 use Rattle.ctrl_types.specs.declared.gates.Gate.TheFolds.{fold-Gate}
 
--- a conjunction is its first part and the conjunction of the others, and so is a disjunction
-pub data Test : Type 0 where
-  always : Test
-  never : Test
-  comparison : Lin → Rel5 → Lin → Test
-  delay : ℕ → Test
-  opposite : Test → Test
-  end_of_all : Test
-  all_of : Test → Test → Test
-  end_of_any : Test
-  any_of : Test → Test → Test
+-- names are replaced by what they stand for, and the number of a test of delay is one of rows
+abbrev pub Test : Type 0
+Test = Tree (Leaf Lin ℕ)
 
-abbrev pub conjunction : List Test → Test
-conjunction [] = end_of_all
-conjunction (t ∷ ts) = all_of t (conjunction ts)
+abbrev pub comparison : Lin → Rel5 → Lin → Test
+comparison left rel right = leaf (compares left rel right)
 
-abbrev pub disjunction : List Test → Test
-disjunction [] = end_of_any
-disjunction (t ∷ ts) = any_of t (disjunction ts)
+abbrev pub delay : ℕ → Test
+delay k = leaf (delayed k)
 
 -- one level of a guard, whose parts are already seen as trees
 abbrev pub test_step : Gate-F Test → Test
@@ -38,15 +29,3 @@ test_step (Gate-F.Or parts) = disjunction parts.items
 
 abbrev pub test_of : Gate → Test
 test_of = fold-Gate Test test_step
-
--- how many comparisons a condition has; tests of delay count
-abbrev pub comparisons : Test → ℕ
-comparisons always = 0
-comparisons never = 0
-comparisons (comparison left rel right) = 1
-comparisons (delay k) = 1
-comparisons (opposite t) = comparisons t
-comparisons end_of_all = 0
-comparisons (all_of t rest) = comparisons t + comparisons rest
-comparisons end_of_any = 0
-comparisons (any_of t rest) = comparisons t + comparisons rest

@@ -20,6 +20,6 @@ mod tests;
 pub use controllers::{Controller, Kind, Rule, State};
 pub use expressions::{Lin, LinTerm, Source};
 pub use gates::Gate;
-pub use laws::statements_are_told_apart;
+pub use laws::{kinds_and_denominators, statements_are_told_apart};
 pub use resolving::resolve;
 pub use sums::with_number;

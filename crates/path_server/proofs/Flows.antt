@@ -5,9 +5,10 @@ use Rattle.std.proofs.lemmas.Int.{to_z-of_z, fits_signed_from_abs}
 use Rattle.std.specs.Int.{w128}
 use Rattle.whole.specs.Numbers.{IsWithin}
 use Rattle.weighing.specs.Weight.{Weight}
-use Rattle.weighing.specs.Weighed.{added, times, weighed_from}
+use Rattle.weighing.specs.Weighed.{added, start, times, weighed, weighed_from}
+use Rattle.path_server.specs.Claims.{Factors}
 use Rattle.weighing.specs.declared.weighings.Term.{Term}
-use Rattle.path_server.specs.Claims.{each_flow}
+use Rattle.claims.specs.Subjects.{each_flow}
 
 pub weighed-append : (w : Weight) (xs ys : List Term) → weighed_from w (xs ++ ys) ≡ weighed_from (weighed_from w xs) ys
 weighed-append w xs ys = fold-append (λ (a : Weight) (t : Term). added a t.0 t.1) w xs ys
@@ -42,3 +43,21 @@ pub two_terms : (w : Weight) (k y e l z f : ℤ) → IsWithin k → IsWithin y �
 two_terms w k y e l z f small within same small' within' same' =
     ap (λ t. weighed_from w (t ∷ times (given l) (given z) ∷ [])) (given_term k y e small within same)
     ∙ ap (λ t. weighed_from w (times k e ∷ t ∷ [])) (given_term l z f small' within' same')
+
+-- ---- a weighing that is made part by part, each at factors of its own
+
+pub two_parts : (row : ℕ) (w0 w1 w2 : Weight) (first second : Factors → List Term) (s t a b : Factors)
+    → w0 ≡ start row → w1 ≡ weighed_from w0 (first s) → w2 ≡ weighed_from w1 (second t) → s ≡ a → t ≡ b
+    → w2 ≡ weighed row (first a ++ second b)
+two_parts row w0 w1 w2 first second s t a b begun one two same same' =
+    two ∙ ap (λ w. weighed_from w (second t)) one ∙ sym (weighed-append w0 (first s) (second t))
+    ∙ ap (λ w. weighed_from w (first s ++ second t)) begun
+    ∙ ap (λ e. weighed row (first e ++ second t)) same ∙ ap (λ e. weighed row (first a ++ second e)) same'
+
+pub three_parts : (row : ℕ) (w0 w1 w2 w3 : Weight) (first second third : Factors → List Term) (s t u a b d : Factors)
+    → w0 ≡ start row → w1 ≡ weighed_from w0 (first s) → w2 ≡ weighed_from w1 (second t) → w3 ≡ weighed_from w2 (third u)
+    → s ≡ a → t ≡ b → u ≡ d → w3 ≡ weighed row ((first a ++ second b) ++ third d)
+three_parts row w0 w1 w2 w3 first second third s t u a b d begun one two three same same' same'' =
+    three ∙ ap (λ w. weighed_from w (third u)) (two_parts row w0 w1 w2 first second s t a b begun one two same same')
+    ∙ sym (weighed-append (start row) (first a ++ second b) (third u))
+    ∙ ap (λ e. weighed row ((first a ++ second b) ++ third e)) same''

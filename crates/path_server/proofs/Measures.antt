@@ -5,6 +5,7 @@ use Rattle.std.proofs.Math.IntN.{*ℤ_comm}
 use Rattle.whole.specs.declared.answers.Pair.{Pair}
 use Rattle.whole.proofs.Integers.{*ℤ-+ℤ, *ℤ_assoc, neg_ℤ-*ℤ, *ℤ-neg_ℤ}
 use Rattle.weighing.specs.Claim.{total}
+use Rattle.claims.specs.Subjects.{in_run}
 use Rattle.run_rows.specs.Runs.{arrived, flow_count, lost, over_flows, served, waste}
 use Rattle.run_rows.specs.declared.rows.Run.{Run}
 use Rattle.path_server.specs.Claims.{Factors, accepted, allowance, opposite, room, service}
@@ -74,7 +75,7 @@ three_terms : (k a b c : ℤ) → k *ℤ (a +ℤ (b +ℤ (c +ℤ pos 0))) ≡ k 
 three_terms k a b c = simp *ℤ-+ℤ (omega (arith, ints))
 
 pub allowance_measured : (p : Path) (r : Run) (s : Factors) (k : ℤ) (i d : ℕ) → Measures p s k
-    → k *ℤ total (allowance p r s i d) ≡ allowed p r i d
+    → k *ℤ total (allowance (in_run r) p s i d) ≡ allowed p r i d
 allowance_measured p r s k i d m =
     let span : ℤ = pos i -ℤ pos d in
     let parts = three_terms k (p.rate.num *ℤ span *ℤ s.rate *ℤ r.over) (s.unit *ℤ r.credit) (s.minus *ℤ waste r (i - d)) in
@@ -85,12 +86,12 @@ allowance_measured p r s k i d m =
     cc
 
 pub service_measured : (p : Path) (r : Run) (s : Factors) (k : ℤ) (i : ℕ) → Measures p s k
-    → k *ℤ total (service r s i) ≡ unit p *ℤ all_served r i
+    → k *ℤ total (service (in_run r) (flow_count r 0) s i) ≡ unit p *ℤ all_served r i
 service_measured p r s k i m =
     ap (λ n. k *ℤ n) (total-each_flow s.unit (served r i) (flow_count r 0)) ∙ into_term k s.unit (unit p) (all_served r i) m.unit_is
 
 pub accepted_measured : (p : Path) (r : Run) (s : Factors) (k : ℤ) (i : ℕ) → Measures p s k
-    → k *ℤ total (accepted r s i) ≡ unit p *ℤ all_accepted r i
+    → k *ℤ total (accepted (in_run r) (flow_count r 0) s i) ≡ unit p *ℤ all_accepted r i
 accepted_measured p r s k i m =
     let arrivals : ℤ = over_flows (arrived r i) (flow_count r 0) in
     let losses : ℤ = over_flows (lost r i) (flow_count r 0) in
@@ -101,7 +102,7 @@ accepted_measured p r s k i m =
     let both = unit_of_both (unit p) arrivals losses in cc)
 
 pub room_measured : (p : Path) (b : Pair) (r : Run) (s : Factors) (k : ℤ) → k *ℤ s.buffer ≡ p.rate.den
-    → k *ℤ total (room b r s) ≡ buffer p b *ℤ r.over
+    → k *ℤ total (room (in_run r) b s) ≡ buffer p b *ℤ r.over
 room_measured p b r s k e =
     let inner : k *ℤ (b.num *ℤ s.buffer) ≡ b.num *ℤ p.rate.den =
     (sym (*ℤ_assoc k b.num s.buffer) ∙ ap (λ w. w *ℤ s.buffer) (*ℤ_comm k b.num) ∙ *ℤ_assoc b.num k s.buffer ∙ ap (λ w. b.num *ℤ w) e) in

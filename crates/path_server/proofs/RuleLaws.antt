@@ -6,13 +6,14 @@ use Rattle.std.specs.Prelude.{◌==◌, nat_lt, true, false}
 use Rattle.std.proofs.Math.IntN.{*ℤ_comm}
 use Rattle.whole.specs.declared.answers.Pair.{Pair}
 use Rattle.whole.proofs.Integers.{<ℤ-not-≤ℤ, *ℤ-≤ℤ, ≤ℤ_of_*ℤ, ≤ℤ_or_>, *ℤ-+ℤ, neg_ℤ-*ℤ}
-use Rattle.weighing.specs.Claim.{Holds, compare, total}
+use Rattle.weighing.specs.Claim.{Holds, all_claims, compare, total}
 use Rattle.weighing.specs.Weighed.{times}
 use Rattle.weighing.specs.declared.weighings.Term.{Term}
 use Rattle.weighing.specs.declared.weighings.Rel5.TheVariants.{AtMost, AtLeast}
 use Rattle.run_rows.specs.Runs.{flow_count, lost, waste}
 use Rattle.run_rows.specs.declared.rows.Run.{Run}
-use Rattle.path_server.specs.Claims.{Factors, acceptance_claim, accepted, allowance, buffer_claim, ceiling_claim, claim_of, common_scale, floor_claim, full_or_none, growth_claim, loss_claim, new_losses, opposite, queue_fits, queue_was_full, rate_scale, room, service, service_claim, start_claim, waste_claim, waste_rate_claim}
+use Rattle.claims.specs.Subjects.{in_run}
+use Rattle.path_server.specs.Claims.{Factors, acceptance_claims, accepted, allowance, buffer_claims, ceiling_claims, claim_of, common_scale, floor_claims, full_or_none, growth_claims, loss_claims, new_losses, nothing_waits, opposite, queue_fits, queue_was_full, rate_scale, room, service, service_claims, start_claims, waste_claims, waste_rate_claims}
 use Rattle.path_server.specs.Limits.{IsBuffer, IsNumber, IsPath}
 use Rattle.path_server.specs.Rules.{FilledBuffer, FitsBuffer, RuleHolds, all_accepted, all_lost, all_served, allowed, buffer, buffer_den, rate, unit}
 use Rattle.path_server.specs.declared.settings.Path.{Path}
@@ -48,24 +49,24 @@ none_is_less n = lt-ltb 0 (suc n) (omega arith)
 row_before : (i : ℕ) → suc i - 1 ≡ i
 row_before i = omega arith
 
-start_means : (p : Path) (r : Run) (i f : ℕ) → Means (Holds (start_claim r i f)) (RuleHolds p r Start i f)
-unfolding start_claim
+start_means : (p : Path) (r : Run) (i f : ℕ) → Means (Holds (all_claims (start_claims (in_run r) i f))) (RuleHolds p r Start i f)
+unfolding start_claims
 start_means p r zero zero = (λ h. (omega (arith, ints), omega (arith, ints)), λ h. (omega (arith, ints), omega (arith, ints)))
 start_means p r zero (suc f) =
     rw some_is_not_none
     (λ h. (omega (arith, ints), omega (arith, ints), omega (arith, ints)), λ h. (omega (arith, ints), (omega (arith, ints), omega (arith, ints))))
 start_means p r (suc i) f = rw none_is_less nothing_said
 
-growth_means : (p : Path) (r : Run) (i f : ℕ) → Means (Holds (growth_claim r i f)) (RuleHolds p r Growth i f)
-unfolding growth_claim
+growth_means : (p : Path) (r : Run) (i f : ℕ) → Means (Holds (all_claims (growth_claims (in_run r) i f))) (RuleHolds p r Growth i f)
+unfolding growth_claims
 growth_means p r zero f = nothing_said
 growth_means p r (suc i) zero = rw (some_is_not_none, row_before i) (λ h. omega (arith, ints), λ h. omega (arith, ints))
 growth_means p r (suc i) (suc f) =
     rw (some_is_not_none i, some_is_not_none f, row_before i)
     (λ h. (omega (arith, ints), omega (arith, ints), omega (arith, ints)), λ h. (omega (arith, ints), (omega (arith, ints), omega (arith, ints))))
 
-service_means : (p : Path) (r : Run) (i f : ℕ) → Means (Holds (service_claim r i f)) (RuleHolds p r Service i f)
-unfolding service_claim
+service_means : (p : Path) (r : Run) (i f : ℕ) → Means (Holds (all_claims (service_claims (in_run r) i f))) (RuleHolds p r Service i f)
+unfolding service_claims
 service_means p r i zero = nothing_said
 service_means p r i (suc f) = rw some_is_not_none (λ h. omega (arith, ints), λ h. omega (arith, ints))
 
@@ -77,24 +78,24 @@ some_buffer_den p path = by p.buffer path.buffer
     by None number = omega (arith, ints)
     by (Some b) number = let from = number.den_from in omega (arith, ints)
 
-ceiling_means : (p : Path) (r : Run) (i f : ℕ) → IsPath p → Means (Holds (ceiling_claim p r i f)) (RuleHolds p r Ceiling i f)
-unfolding ceiling_claim
+ceiling_means : (p : Path) (r : Run) (i f : ℕ) → IsPath p → Means (Holds (all_claims (ceiling_claims (in_run r) (flow_count r 0) p i f))) (RuleHolds p r Ceiling i f)
+unfolding ceiling_claims
 ceiling_means p r i zero path =
     let m = rate_measures p in
     let o = opposite_measures p (rate_scale p) (buffer_den p.buffer) m in
     difference_means (buffer_den p.buffer) _ _ _ (allowed p r i 0) (unit p *ℤ all_served r i) (some_buffer_den p path)
-    (total-append (allowance p r (rate_scale p) i 0) (service r (opposite (rate_scale p)) i))
+    (total-append (allowance (in_run r) p (rate_scale p) i 0) (service (in_run r) (flow_count r 0) (opposite (rate_scale p)) i))
     (allowance_measured p r (rate_scale p) (buffer_den p.buffer) i 0 m)
     (service_measured p r (opposite (rate_scale p)) (neg_ℤ (buffer_den p.buffer)) i o)
 ceiling_means p r i (suc f) path = rw none_is_less nothing_said
 
-floor_means : (p : Path) (r : Run) (i f : ℕ) → IsPath p → Means (Holds (floor_claim p r i f)) (RuleHolds p r Floor i f)
-unfolding floor_claim
+floor_means : (p : Path) (r : Run) (i f : ℕ) → IsPath p → Means (Holds (all_claims (floor_claims (in_run r) (flow_count r 0) p i f))) (RuleHolds p r Floor i f)
+unfolding floor_claims
 floor_means p r i zero path =
     let m = rate_measures p in
     let o = opposite_measures p (rate_scale p) (buffer_den p.buffer) m in
     difference_means (buffer_den p.buffer) _ _ _ (unit p *ℤ all_served r i) (allowed p r i p.jitter) (some_buffer_den p path)
-    (total-append (service r (rate_scale p) i) (allowance p r (opposite (rate_scale p)) i p.jitter))
+    (total-append (service (in_run r) (flow_count r 0) (rate_scale p) i) (allowance (in_run r) p (opposite (rate_scale p)) i p.jitter))
     (service_measured p r (rate_scale p) (buffer_den p.buffer) i m)
     (allowance_measured p r (opposite (rate_scale p)) (neg_ℤ (buffer_den p.buffer)) i p.jitter o)
 floor_means p r i (suc f) path = rw none_is_less nothing_said
@@ -116,26 +117,26 @@ no_waste_means : (r : Run) (i h : ℕ)
 no_waste_means r i h = (λ c. omega (arith, ints), λ c. omega (arith, ints))
 
 empty_means : (p : Path) (r : Run) (i : ℕ) → IsPath p
-    → Means (Holds (compare (allowance p r (rate_scale p) i 0 ++ accepted r (opposite (rate_scale p)) i) AtLeast))
-    ((unit p *ℤ all_accepted r i) ≤ℤ allowed p r i 0)
+    → Means (Holds (nothing_waits (in_run r) (flow_count r 0) p i)) ((unit p *ℤ all_accepted r i) ≤ℤ allowed p r i 0)
+unfolding nothing_waits
 empty_means p r i path =
     let m = rate_measures p in
     let o = opposite_measures p (rate_scale p) (buffer_den p.buffer) m in
     difference_means (buffer_den p.buffer) _ _ _ (allowed p r i 0) (unit p *ℤ all_accepted r i) (some_buffer_den p path)
-    (total-append (allowance p r (rate_scale p) i 0) (accepted r (opposite (rate_scale p)) i))
+    (total-append (allowance (in_run r) p (rate_scale p) i 0) (accepted (in_run r) (flow_count r 0) (opposite (rate_scale p)) i))
     (allowance_measured p r (rate_scale p) (buffer_den p.buffer) i 0 m)
     (accepted_measured p r (opposite (rate_scale p)) (neg_ℤ (buffer_den p.buffer)) i o)
 
-waste_means : (p : Path) (r : Run) (i f : ℕ) → IsPath p → Means (Holds (waste_claim p r i f)) (RuleHolds p r Waste i f)
-unfolding waste_claim
+waste_means : (p : Path) (r : Run) (i f : ℕ) → IsPath p → Means (Holds (all_claims (waste_claims (in_run r) (flow_count r 0) p i f))) (RuleHolds p r Waste i f)
+unfolding waste_claims
 waste_means p r zero f path = nothing_said
 waste_means p r (suc i) zero path =
     rw (some_is_not_none i, row_before i)
     (either_means (waste r (suc i)) (waste r i) _ _ _ (no_waste_means r (suc i) i) (empty_means p r (suc i) path))
 waste_means p r (suc i) (suc f) path = rw (some_is_not_none i, none_is_less f) nothing_said
 
-acceptance_means : (p : Path) (r : Run) (i f : ℕ) → Means (Holds (acceptance_claim r i f)) (RuleHolds p r Acceptance i f)
-unfolding acceptance_claim
+acceptance_means : (p : Path) (r : Run) (i f : ℕ) → Means (Holds (all_claims (acceptance_claims (in_run r) i f))) (RuleHolds p r Acceptance i f)
+unfolding acceptance_claims
 acceptance_means p r zero f = nothing_said
 acceptance_means p r (suc i) zero = rw some_is_not_none nothing_said
 acceptance_means p r (suc i) (suc f) =
@@ -153,8 +154,8 @@ waste_rate_row p r i h path =
     difference_means k _ (p.rate.num *ℤ r.over) wasted (rate p *ℤ r.over) (unit p *ℤ (waste r i -ℤ waste r h)) (some_buffer_den p path)
     refl (into_term k p.rate.num (rate p) r.over (*ℤ_comm k p.rate.num)) taken
 
-waste_rate_means : (p : Path) (r : Run) (i f : ℕ) → IsPath p → Means (Holds (waste_rate_claim p r i f)) (RuleHolds p r WasteRate i f)
-unfolding waste_rate_claim
+waste_rate_means : (p : Path) (r : Run) (i f : ℕ) → IsPath p → Means (Holds (all_claims (waste_rate_claims (in_run r) p i f))) (RuleHolds p r WasteRate i f)
+unfolding waste_rate_claims
 waste_rate_means p r zero f path = nothing_said
 waste_rate_means p r (suc i) zero path = rw (some_is_not_none i, row_before i) (waste_rate_row p r (suc i) i path)
 waste_rate_means p r (suc i) (suc f) path = rw (some_is_not_none i, none_is_less f) nothing_said
@@ -177,7 +178,7 @@ not_less : (a b : ℤ) → (a <ℤ b → ⊥) → b ≤ℤ a
 not_less a b denied = elim (≤ℤ_or_> b a) [ inl le ↦ le | inr lt ↦ absurd (denied lt) ]
 
 queue_fits_means : (p : Path) (b : Pair) (r : Run) (i : ℕ) → IsPath p → p.buffer ≡ Some b
-    → Means (Holds (queue_fits p b r i)) (FitsBuffer p r i (Some b))
+    → Means (Holds (queue_fits (in_run r) (flow_count r 0) p b i)) (FitsBuffer p r i (Some b))
 unfolding queue_fits
 queue_fits_means p b r i path is =
     let s : Factors = common_scale p b in
@@ -185,34 +186,34 @@ queue_fits_means p b r i path is =
     let m = common_measures p b path (buffer_number p b path is) is in
     let o = opposite_measures p s k m.measures in
     difference_means k _ _ _ (allowed p r i 0 +ℤ buffer p b *ℤ r.over) (unit p *ℤ all_accepted r i) m.some
-    (total-append (allowance p r s i 0 ++ room b r s) (accepted r (opposite s) i))
-    (joined_measures k (allowance p r s i 0) (room b r s) _ _ (allowance_measured p r s k i 0 m.measures) (room_measured p b r s k m.buffer_is))
+    (total-append (allowance (in_run r) p s i 0 ++ room (in_run r) b s) (accepted (in_run r) (flow_count r 0) (opposite s) i))
+    (joined_measures k (allowance (in_run r) p s i 0) (room (in_run r) b s) _ _ (allowance_measured p r s k i 0 m.measures) (room_measured p b r s k m.buffer_is))
     (accepted_measured p r (opposite s) (neg_ℤ k) i o)
 
 buffer_means_at : (p : Path) (r : Run) (i f : ℕ) (b : Option Pair) → IsPath p → p.buffer ≡ b
-    → Means (Holds (buffer_claim p b r i f)) (BufferHolds p r i f b)
-unfolding buffer_claim
+    → Means (Holds (all_claims (buffer_claims (in_run r) (flow_count r 0) p b i f))) (BufferHolds p r i f b)
+unfolding buffer_claims
 buffer_means_at p r i zero None path is = nothing_said
 buffer_means_at p r i (suc f) None path is = nothing_said
 buffer_means_at p r i zero (Some b) path is = queue_fits_means p b r i path is
 buffer_means_at p r i (suc f) (Some b) path is = rw none_is_less nothing_said
 
-no_loss_means : (r : Run) (i h : ℕ) → Means (Holds (compare (new_losses r i h) AtMost)) (all_lost r i ≤ℤ all_lost r h)
+no_loss_means : (r : Run) (i h : ℕ) → Means (Holds (compare (new_losses (in_run r) (flow_count r 0) i h) AtMost)) (all_lost r i ≤ℤ all_lost r h)
 no_loss_means r i h =
     let sums = total-each_flow_2 (pos 1) (negsuc 0) (lost r i) (lost r h) (flow_count r 0) in
     (λ c. omega (arith, ints), λ c. omega (arith, ints))
 
 queue_was_full_means : (p : Path) (b : Pair) (r : Run) (i h : ℕ) → IsPath p → p.buffer ≡ Some b
-    → Means (Holds (queue_was_full p b r i h)) (FilledBuffer p r i h (Some b))
+    → Means (Holds (queue_was_full (in_run r) (flow_count r 0) p b i h)) (FilledBuffer p r i h (Some b))
 unfolding queue_was_full
 queue_was_full_means p b r i h path is =
     let s : Factors = common_scale p b in
     let k : ℤ = common_cofactor p b in
     let m = common_measures p b path (buffer_number p b path is) is in
     let o = opposite_measures p s k m.measures in
-    let queue : List Term = accepted r s i in
-    let served : List Term = allowance p r (opposite s) h 0 in
-    let room_left : List Term = room b r (opposite s) in
+    let queue : List Term = accepted (in_run r) (flow_count r 0) s i in
+    let served : List Term = allowance (in_run r) p (opposite s) h 0 in
+    let room_left : List Term = room (in_run r) b (opposite s) in
     let parts : total ((queue ++ served) ++ room_left) ≡ total queue +ℤ total (served ++ room_left) =
     (ap total (append_assoc queue served room_left) ∙ total-append queue (served ++ room_left)) in
     difference_means k _ _ _ (unit p *ℤ all_accepted r i) (allowed p r h 0 +ℤ buffer p b *ℤ r.over) m.some parts
@@ -221,7 +222,7 @@ queue_was_full_means p b r i h path is =
     (room_measured p b r (opposite s) (neg_ℤ k) (opposite_factor k s.buffer p.rate.den m.buffer_is)))
 
 loss_means_at : (p : Path) (r : Run) (i h : ℕ) (b : Option Pair) → IsPath p → p.buffer ≡ b
-    → Means (Holds (full_or_none p b r i h)) (all_lost r h <ℤ all_lost r i → FilledBuffer p r i h b)
+    → Means (Holds (full_or_none (in_run r) (flow_count r 0) p b i h)) (all_lost r h <ℤ all_lost r i → FilledBuffer p r i h b)
 unfolding full_or_none
 loss_means_at p r i h None path is =
     let m = no_loss_means r i h in
@@ -229,8 +230,8 @@ loss_means_at p r i h None path is =
 loss_means_at p r i h (Some b) path is =
     either_means (all_lost r i) (all_lost r h) _ _ _ (no_loss_means r i h) (queue_was_full_means p b r i h path is)
 
-loss_means : (p : Path) (r : Run) (i f : ℕ) → IsPath p → Means (Holds (loss_claim p p.buffer r i f)) (RuleHolds p r Loss i f)
-unfolding loss_claim
+loss_means : (p : Path) (r : Run) (i f : ℕ) → IsPath p → Means (Holds (all_claims (loss_claims (in_run r) (flow_count r 0) p p.buffer i f))) (RuleHolds p r Loss i f)
+unfolding loss_claims
 loss_means p r zero f path = nothing_said
 loss_means p r (suc i) zero path = rw (some_is_not_none i, row_before i) (loss_means_at p r (suc i) i p.buffer path refl)
 loss_means p r (suc i) (suc f) path = rw (some_is_not_none i, none_is_less f) nothing_said

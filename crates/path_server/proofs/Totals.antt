@@ -6,7 +6,7 @@ use Rattle.weighing.specs.Claim.{total}
 use Rattle.weighing.specs.Weighed.{times}
 use Rattle.weighing.specs.declared.weighings.Term.{Term}
 use Rattle.run_rows.specs.Runs.{over_flows}
-use Rattle.path_server.specs.Claims.{each_flow}
+use Rattle.claims.specs.Subjects.{each_flow}
 
 pub total-append : (xs ys : List Term) → total (xs ++ ys) ≡ total xs +ℤ total ys
 total-append [] ys = omega (arith, ints)

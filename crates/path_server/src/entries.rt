@@ -1,6 +1,7 @@
 //! The entries of a run as weighings take them: sums over the flows, and what the path allows.
 ghost use Rattle.std.specs.Prelude.{◌≡◌, ◌<◌, ◌≤◌, length};
-ghost use Rattle.run_rows.specs.Runs.{IsRun};
+ghost use Rattle.claims.specs.Subjects.{in_run};
+ghost use Rattle.run_rows.specs.Runs.{IsRun, flow_count};
 ghost use Rattle.weighing.specs.Weighed.{weighed_from};
 ghost use Rattle.path_server.specs.Limits.{IsNumber, IsPath};
 ghost use Rattle.path_server.specs.Scales.{IsScale, factors};
@@ -17,7 +18,7 @@ pub fn plus_service(start: Weighing, scale: &Scale, run: &Run, row: u32) -> Weig
     requires run_in { IsRun run.now }
     requires row_in { row < length run.now.rows }
     requires scale_in { IsScale scale.now }
-    ensures { result ≡ weighed_from start (service run.now (factors scale.now) row) }
+    ensures { result ≡ weighed_from start (service (in_run run.now) (flow_count run.now 0) (factors scale.now) row) }
 {
     let mut weighing = start;
     for index in 0..run.flow_count() {
@@ -32,7 +33,7 @@ pub fn plus_accepted(start: Weighing, scale: &Scale, run: &Run, row: u32) -> Wei
     requires run_in { IsRun run.now }
     requires row_in { row < length run.now.rows }
     requires scale_in { IsScale scale.now }
-    ensures { result ≡ weighed_from start (accepted run.now (factors scale.now) row) }
+    ensures { result ≡ weighed_from start (accepted (in_run run.now) (flow_count run.now 0) (factors scale.now) row) }
 {
     let mut weighing = start;
     for index in 0..run.flow_count() {
@@ -47,7 +48,7 @@ pub fn plus_new_losses(start: Weighing, run: &Run, row: u32, before: u32) -> Wei
     requires run_in { IsRun run.now }
     requires row_in { row < length run.now.rows }
     requires before_in { before < length run.now.rows }
-    ensures { result ≡ weighed_from start (new_losses run.now row before) }
+    ensures { result ≡ weighed_from start (new_losses (in_run run.now) (flow_count run.now 0) row before) }
 {
     let mut weighing = start;
     for index in 0..run.flow_count() {
@@ -71,7 +72,7 @@ pub fn plus_allowance(
     requires row_in { row < length run.now.rows }
     requires back_in { back ≤ 8 }
     requires scale_in { IsScale scale.now }
-    ensures { result ≡ weighed_from start (allowance path.now run.now (factors scale.now) row back) }
+    ensures { result ≡ weighed_from start (allowance (in_run run.now) path.now (factors scale.now) row back) }
 {
     let rate = scale.rate_over(path, row, back);
     let wasted = run.waste(row.saturating_sub(back));
@@ -88,7 +89,7 @@ pub fn plus_room(start: Weighing, buffer: &Pair, scale: &Scale, run: &Run) -> We
     requires buffer_in { IsNumber buffer.now }
     requires run_in { IsRun run.now }
     requires scale_in { IsScale scale.now }
-    ensures { result ≡ weighed_from start (room buffer.now run.now (factors scale.now)) }
+    ensures { result ≡ weighed_from start (room (in_run run.now) buffer.now (factors scale.now)) }
 {
     start.plus_all(&[Term(scale.buffer_of(buffer), run.over)])
 }

@@ -1,8 +1,9 @@
 //! The rules in which the server's rate or the buffer stands. They speak of the path as a whole, under flow 0.
 ghost use Rattle.std.specs.Prelude.{◌≡◌, ◌<◌, ◌≤◌, ◌-◌, Option, None, Some, length};
-ghost use Rattle.run_rows.specs.Runs.{IsRun};
-ghost use Rattle.weighing.specs.Claim.{outcome};
-ghost use Rattle.path_server.specs.Claims.{buffer_claim, ceiling_claim, floor_claim, full_or_none, loss_claim, queue_fits, queue_was_full, waste_claim, waste_rate_claim};
+ghost use Rattle.claims.specs.Subjects.{in_run};
+ghost use Rattle.run_rows.specs.Runs.{IsRun, flow_count};
+ghost use Rattle.weighing.specs.Claim.{all_claims, outcome};
+ghost use Rattle.path_server.specs.Claims.{buffer_claims, ceiling_claims, floor_claims, full_or_none, loss_claims, nothing_waits, queue_fits, queue_was_full, waste_claims, waste_rate_claims};
 ghost use Rattle.path_server.specs.Limits.{IsNumber, IsPath};
 
 use crate::entries::{plus_accepted, plus_allowance, plus_new_losses, plus_room, plus_service};
@@ -13,12 +14,12 @@ use weighing::{Rel5, Term, Weighing, compare, either};
 use whole::{Pair, Stuck};
 
 /// `P3`.
-#[tactic(auto, unfolding(crate::specs::Claims::ceiling_claim))]
+#[tactic(auto, unfolding(crate::specs::Claims::ceiling_claims))]
 pub fn ceiling(path: &Path, run: &Run, row: u32, flow: u32) -> Result<bool, Stuck>
     requires path_in { IsPath path.now }
     requires run_in { IsRun run.now }
     requires row_in { row < length run.now.rows }
-    ensures { result ≡ outcome row (ceiling_claim path.now run.now row flow) }
+    ensures { result ≡ outcome row (all_claims (ceiling_claims (in_run run.now) (flow_count run.now 0) path.now row flow)) }
 {
     if flow > 0 {
         return Ok(true);
@@ -30,12 +31,12 @@ pub fn ceiling(path: &Path, run: &Run, row: u32, flow: u32) -> Result<bool, Stuc
 }
 
 /// `P4`.
-#[tactic(auto, unfolding(crate::specs::Claims::floor_claim))]
+#[tactic(auto, unfolding(crate::specs::Claims::floor_claims))]
 pub fn floor(path: &Path, run: &Run, row: u32, flow: u32) -> Result<bool, Stuck>
     requires path_in { IsPath path.now }
     requires run_in { IsRun run.now }
     requires row_in { row < length run.now.rows }
-    ensures { result ≡ outcome row (floor_claim path.now run.now row flow) }
+    ensures { result ≡ outcome row (all_claims (floor_claims (in_run run.now) (flow_count run.now 0) path.now row flow)) }
 {
     if flow > 0 {
         return Ok(true);
@@ -47,32 +48,43 @@ pub fn floor(path: &Path, run: &Run, row: u32, flow: u32) -> Result<bool, Stuck>
 }
 
 /// `P5`.
-#[tactic(auto, unfolding(crate::specs::Claims::waste_claim))]
+#[tactic(auto, unfolding(crate::specs::Claims::waste_claims))]
 pub fn waste(path: &Path, run: &Run, row: u32, flow: u32) -> Result<bool, Stuck>
     requires path_in { IsPath path.now }
     requires run_in { IsRun run.now }
     requires row_in { row < length run.now.rows }
-    ensures { result ≡ outcome row (waste_claim path.now run.now row flow) }
+    ensures { result ≡ outcome row (all_claims (waste_claims (in_run run.now) (flow_count run.now 0) path.now row flow)) }
 {
     if row == 0 || flow > 0 {
         return Ok(true);
     }
     let terms = [Term(1, run.waste(row)), Term(-1, run.waste(row - 1))];
-    let none = compare(row, &terms, Rel5::AtMost);
+    either(
+        compare(row, &terms, Rel5::AtMost),
+        nothing_waits(path, run, row),
+    )
+}
+
+/// Whether the server could have served all that was accepted.
+fn nothing_waits(path: &Path, run: &Run, row: u32) -> Result<bool, Stuck>
+    requires path_in { IsPath path.now }
+    requires run_in { IsRun run.now }
+    requires row_in { row < length run.now.rows }
+    ensures { result ≡ outcome row (nothing_waits (in_run run.now) (flow_count run.now 0) path.now row) }
+{
     let scale = Scale::of_rate(path);
     let opposite = scale.opposite();
     let allowed = plus_allowance(Weighing::new(row), path, &scale, run, row, 0);
-    let waiting = plus_accepted(allowed, &opposite, run, row);
-    either(none, waiting.stands(Rel5::AtLeast))
+    plus_accepted(allowed, &opposite, run, row).stands(Rel5::AtLeast)
 }
 
 /// `P7`.
-#[tactic(auto, unfolding(crate::specs::Claims::buffer_claim))]
+#[tactic(auto, unfolding(crate::specs::Claims::buffer_claims))]
 pub fn buffer(path: &Path, run: &Run, row: u32, flow: u32) -> Result<bool, Stuck>
     requires path_in { IsPath path.now }
     requires run_in { IsRun run.now }
     requires row_in { row < length run.now.rows }
-    ensures { result ≡ outcome row (buffer_claim path.now path.now.buffer run.now row flow) }
+    ensures { result ≡ outcome row (all_claims (buffer_claims (in_run run.now) (flow_count run.now 0) path.now path.now.buffer row flow)) }
 {
     match &path.buffer {
         Some(buffer) if flow == 0 => queue_fits(path, buffer, run, row),
@@ -81,13 +93,12 @@ pub fn buffer(path: &Path, run: &Run, row: u32, flow: u32) -> Result<bool, Stuck
 }
 
 /// Whether what waits fits the buffer.
-#[tactic(auto, unfolding(crate::specs::Claims::queue_fits))]
 fn queue_fits(path: &Path, buffer: &Pair, run: &Run, row: u32) -> Result<bool, Stuck>
     requires path_in { IsPath path.now }
     requires buffer_in { IsNumber buffer.now }
     requires run_in { IsRun run.now }
     requires row_in { row < length run.now.rows }
-    ensures { result ≡ outcome row (queue_fits path.now buffer.now run.now row) }
+    ensures { result ≡ outcome row (queue_fits (in_run run.now) (flow_count run.now 0) path.now buffer.now row) }
 {
     let scale = Scale::of_buffer(path, buffer);
     let opposite = scale.opposite();
@@ -97,12 +108,12 @@ fn queue_fits(path: &Path, buffer: &Pair, run: &Run, row: u32) -> Result<bool, S
 }
 
 /// `P8`.
-#[tactic(auto, unfolding(crate::specs::Claims::loss_claim, crate::specs::Claims::full_or_none))]
+#[tactic(auto, unfolding(crate::specs::Claims::loss_claims, crate::specs::Claims::full_or_none))]
 pub fn loss(path: &Path, run: &Run, row: u32, flow: u32) -> Result<bool, Stuck>
     requires path_in { IsPath path.now }
     requires run_in { IsRun run.now }
     requires row_in { row < length run.now.rows }
-    ensures { result ≡ outcome row (loss_claim path.now path.now.buffer run.now row flow) }
+    ensures { result ≡ outcome row (all_claims (loss_claims (in_run run.now) (flow_count run.now 0) path.now path.now.buffer row flow)) }
 {
     if row == 0 || flow > 0 {
         return Ok(true);
@@ -115,14 +126,13 @@ pub fn loss(path: &Path, run: &Run, row: u32, flow: u32) -> Result<bool, Stuck>
 }
 
 /// Whether what waits on this row, before the server's work of the row, filled the buffer.
-#[tactic(auto, unfolding(crate::specs::Claims::queue_was_full))]
 fn queue_was_full(path: &Path, buffer: &Pair, run: &Run, row: u32) -> Result<bool, Stuck>
     requires path_in { IsPath path.now }
     requires buffer_in { IsNumber buffer.now }
     requires run_in { IsRun run.now }
     requires row_from { 0 < row }
     requires row_in { row < length run.now.rows }
-    ensures { result ≡ outcome row (queue_was_full path.now buffer.now run.now row (row - 1)) }
+    ensures { result ≡ outcome row (queue_was_full (in_run run.now) (flow_count run.now 0) path.now buffer.now row (row - 1)) }
 {
     let scale = Scale::of_buffer(path, buffer);
     let opposite = scale.opposite();
@@ -132,12 +142,12 @@ fn queue_was_full(path: &Path, buffer: &Pair, run: &Run, row: u32) -> Result<boo
 }
 
 /// `P9`.
-#[tactic(auto, unfolding(crate::specs::Claims::waste_rate_claim))]
+#[tactic(auto, unfolding(crate::specs::Claims::waste_rate_claims))]
 pub fn waste_rate(path: &Path, run: &Run, row: u32, flow: u32) -> Result<bool, Stuck>
     requires path_in { IsPath path.now }
     requires run_in { IsRun run.now }
     requires row_in { row < length run.now.rows }
-    ensures { result ≡ outcome row (waste_rate_claim path.now run.now row flow) }
+    ensures { result ≡ outcome row (all_claims (waste_rate_claims (in_run run.now) path.now row flow)) }
 {
     if row == 0 || flow > 0 {
         return Ok(true);

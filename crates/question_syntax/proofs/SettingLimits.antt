@@ -6,7 +6,7 @@ use Rattle.whole.specs.declared.answers.Pair.{Pair}
 use Rattle.source_text.specs.Tokens.{Token}
 use Rattle.source_text.specs.Shown.{Ahead}
 use Rattle.weighing.specs.declared.scales.Num.{Num}
-use Rattle.condition_syntax.specs.Expressions.{fraction}
+use Rattle.condition_syntax.specs.Words.{fraction}
 use Rattle.condition_syntax.specs.Grammar.{IsNumber}
 use Rattle.path_server.specs.declared.settings.Setting.{Setting}
 use Rattle.path_server.specs.Limits.{IsNumber as IsFraction, IsBuffer, IsSetting}

@@ -2,13 +2,12 @@
 use Rattle.std.specs.Prelude.{◌≡◌, ◌≤◌, length, All, false, codes, Option, Some, None}
 use Rattle.weighing.specs.Scaled.{IsNum}
 use Rattle.weighing.specs.declared.scales.Num.{Num}
-use Rattle.condition_syntax.specs.Fronts.{is_keyword}
-use Rattle.condition_syntax.specs.Trees.{Condition, comparisons}
+use Rattle.condition_syntax.specs.Words.{is_keyword}
+use Rattle.condition_syntax.specs.Trees.{Condition, comparisons, EachExpr, EachDelay}
 use Rattle.condition_syntax.specs.declared.expressions.Expr.{Expr}
 use Rattle.condition_syntax.specs.declared.expressions.ETerm.{ETerm}
 use Rattle.condition_syntax.specs.declared.expressions.Name.{Name}
 use Rattle.path_server.specs.Limits.{IsSetting}
-use Rattle.condition_syntax.specs.Limits.{EachExpr, EachDelay}
 use Rattle.ctrl_syntax.specs.Limits.{IsNameText, nesting}
 use Rattle.question_syntax.specs.Sections.{Wanted, Sections}
 

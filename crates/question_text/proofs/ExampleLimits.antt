@@ -25,7 +25,7 @@ use Rattle.question_text.specs.declared.questions.Question.{Question}
 one_of : {X : Type 0} (P : X → Type 0) (x : X) → P x → All P (x ∷ [])
 one_of P x here = All-cons P x [] here (All-nil P)
 
-cmp_condition : (left : QLin) (rel : Rel5) (right : QLin) → condition_of (Cmp left rel right) ≡ comparison left rel right
+pub cmp_condition : (left : QLin) (rel : Rel5) (right : QLin) → condition_of (Cmp left rel right) ≡ comparison left rel right
 cmp_condition left rel right =
     ap condition_of (sym (rolls-Cmp left rel right)) ∙ fold-roll-QCond Condition condition_step (QCond-F.Cmp left rel right)
 

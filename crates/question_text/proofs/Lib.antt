@@ -1,3 +1,4 @@
+pub mod Columns
 pub mod ExampleLimits
 pub mod Laws
 pub mod Readiness
@@ -7,6 +8,7 @@ pub mod Sums
 mod FoundLoop
 mod TreeLaws
 mod KindLaws
+mod MixLaws
 mod DenominatorLaws
 mod LineLoop
 mod MeaningLaws

@@ -5,7 +5,7 @@ use Rattle.std.specs.List.{fold}
 use Rattle.std.proofs.lemmas.Int.{ints}
 use Rattle.std.proofs.lemmas.Grind.{common_steps}
 use Rattle.std.proofs.lemmas.List.{append-nil}
-use Rattle.std.proofs.lemmas.List.Elements.{All-nil, All-cons, All-append, All-map}
+use Rattle.std.proofs.lemmas.List.Elements.{All-nil, All-cons, All-map}
 use Rattle.text_lines.specs.Steps.{◌>>=◌}
 use Rattle.whole.specs.declared.answers.Pair.{Pair}
 use Rattle.whole.specs.declared.answers.Refusal.{Refusal}
@@ -15,14 +15,14 @@ use Rattle.weighing.specs.declared.scales.Num.{Num}
 use Rattle.path_server.specs.declared.settings.Setting.{Setting}
 use Rattle.path_server.specs.Limits.{IsNumber, IsBuffer, IsSetting}
 use Rattle.condition_syntax.specs.Trees as written
-use Rattle.condition_syntax.specs.Limits.{EachExpr}
+use Rattle.condition_syntax.specs.Trees.{EachExpr}
 use Rattle.question_syntax.specs.Limits.{IsPlacedExpr, IsPlacedTerm}
 use Rattle.condition_syntax.specs.declared.expressions.ETerm.{ETerm}
 use Rattle.ctrl_types.specs.Denominators.{IsScale, with_numbers}
 use Rattle.ctrl_types.specs.Statements.{any_comparison, coefs, condition_numbers}
 use Rattle.ctrl_types.specs.declared.controllers.Controller.{Controller}
 use Rattle.ctrl_types.proofs.Agreement.{Agrees, fine, stops, agrees_then, agrees_map, agrees_weaker}
-use Rattle.ctrl_types.proofs.DenominatorLaws.{IsLimited, past, within, limited}
+use Rattle.ctrl_types.proofs.DenominatorLaws.{IsLimited, past, within, limited, each_expr_gives, numbers_are}
 use Rattle.question_syntax.specs.Reading.{refusal}
 use Rattle.question_syntax.specs.Sections.{Sections, Wanted}
 use Rattle.question_text.specs.Conditions.{Condition}
@@ -85,15 +85,7 @@ module _ (c : Controller) where
   coefs_are terms each = All-map IsNum (λ (t : ETerm). t.coef) terms (λ k d inside. (each k d inside).coef)
 
   pub condition_nums : (w : written.Condition) → EachExpr IsPlacedExpr w → All IsNum (condition_numbers w)
-  condition_nums written.always each = All-nil IsNum
-  condition_nums written.never each = All-nil IsNum
-  condition_nums (written.comparison left rel right) each = All-append IsNum (coefs left.terms) (coefs right.terms) (coefs_are left.terms each.0.each_term) (coefs_are right.terms each.1.each_term)
-  condition_nums (written.delay q) each = All-nil IsNum
-  condition_nums (written.opposite w) each = condition_nums w each
-  condition_nums written.end_of_all each = All-nil IsNum
-  condition_nums (written.all_of w rest) each = All-append IsNum (condition_numbers w) (condition_numbers rest) (condition_nums w each.0) (condition_nums rest each.1)
-  condition_nums written.end_of_any each = All-nil IsNum
-  condition_nums (written.any_of w rest) each = All-append IsNum (condition_numbers w) (condition_numbers rest) (condition_nums w each.0) (condition_nums rest each.1)
+  condition_nums w each = numbers_are IsNum w (each_expr_gives IsPlacedExpr (λ expr. All IsNum (coefs expr.terms)) (λ expr is. coefs_are expr.terms is.each_term) w each)
 
   -- ---- the line of a condition
 

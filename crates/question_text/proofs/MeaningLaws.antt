@@ -7,7 +7,7 @@ use Rattle.weighing.specs.declared.scales.Num.{Num}
 use Rattle.weighing.specs.declared.weighings.Rel5.{Rel5}
 use Rattle.path_server.specs.declared.settings.Setting.{Setting}
 use Rattle.condition_syntax.specs.Trees as written
-use Rattle.condition_syntax.specs.Limits.{EachDelay}
+use Rattle.condition_syntax.specs.Trees.{EachDelay}
 use Rattle.question_syntax.specs.Limits.{NoDelay}
 use Rattle.condition_syntax.specs.declared.expressions.Expr.{Expr}
 use Rattle.condition_syntax.specs.declared.expressions.ETerm.{ETerm}
@@ -142,10 +142,10 @@ module _ (states : List State) (s : Setting) where
   unfolding meant unknown_sides
   unknown_is written.always asked = refl
   unknown_is written.never asked = refl
-  unknown_is (written.comparison left rel right) asked =
+  unknown_is (written.leaf (written.compares left rel right)) asked =
       ap (λ (b : Bool). b || list_any unknown right.terms) (lin_unknown left) ∙ ap (λ (b : Bool). is_none (lin_meant states s left) || b) (lin_unknown right)
       ∙ none_compared rel (lin_meant states s left) (lin_meant states s right)
-  unknown_is (written.delay q) asked = absurd asked
+  unknown_is (written.leaf (written.delayed q)) asked = absurd asked
   unknown_is (written.opposite c) asked = unknown_is c asked ∙ none_opposite (meant states s c)
   unknown_is written.end_of_all asked = refl
   unknown_is (written.all_of c rest) asked =
@@ -175,13 +175,13 @@ module _ (states : List State) (s : Setting) where
   unfolding meant
   means_it written.always d e = same_meant e always
   means_it written.never d e = same_meant e never
-  means_it (written.comparison left rel right) d e = by (lin_meant states s left) (lin_meant states s right) refl refl e
+  means_it (written.leaf (written.compares left rel right)) d e = by (lin_meant states s left) (lin_meant states s right) refl refl e
     where
       by : (x y : Option QLin) → lin_meant states s left ≡ x → lin_meant states s right ≡ y → compared rel x y ≡ Some d → Means (written.comparison left rel right) d
       by None y p q f = absurd (cc)
       by (Some x) None p q f = absurd (cc)
       by (Some x) (Some y) p q f = same_meant f (comparison rel (lin_is_found left x p) (lin_is_found right y q))
-  means_it (written.delay q) d e = absurd (cc)
+  means_it (written.leaf (written.delayed q)) d e = absurd (cc)
   means_it (written.opposite c) d e = by (meant states s c) refl e (λ x p. means_it c x p)
     where
       by : (x : Option Condition) → meant states s c ≡ x → option_map trees.opposite x ≡ Some d → ((y : Condition) → meant states s c ≡ Some y → Means c y) → Means (written.opposite c) d

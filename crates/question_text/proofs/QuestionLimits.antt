@@ -15,7 +15,7 @@ use Rattle.condition_syntax.specs.Trees as written
 use Rattle.condition_syntax.specs.declared.expressions.Name.{Name}
 use Rattle.condition_syntax.specs.declared.expressions.Expr.{Expr}
 use Rattle.condition_syntax.specs.declared.expressions.ETerm.{ETerm}
-use Rattle.condition_syntax.specs.Limits.{EachExpr}
+use Rattle.condition_syntax.specs.Trees.{EachExpr}
 use Rattle.ctrl_types.specs.Denominators.{IsScale}
 use Rattle.ctrl_types.specs.Statements.{coefs, condition_numbers}
 use Rattle.ctrl_types.specs.declared.controllers.Controller.{Controller}

@@ -2,12 +2,13 @@
 use Rattle.std.proofs.Common.{◌≡◌, ℕ, ◌+◌, ◌-◌, ◌<◌, ◌≤◌, false, List, get_or, length, if◌then◌else◌, ◌∙◌, ap, arith}
 use Rattle.std.specs.Prelude.{All, nat_lt}
 use Rattle.std.proofs.lemmas.Bool.Decides.{nat_tests}
-use Rattle.run_rows.specs.Runs.{Fits, FlowFits, IsRun, flow_count, flow_of, no_flow, state_count}
+use Rattle.run_rows.specs.Runs.{IsRun, Shaped, flow_count, flow_of, no_flow, state_count}
 use Rattle.run_rows.specs.declared.rows.Run.{Run}
 use Rattle.run_rows.specs.declared.shapes.Shape.{Shape}
 use Rattle.path_server.specs.Shapes.{shape_of}
 use Rattle.path_server.specs.declared.settings.Setting.{Setting}
-use Rattle.question_text.specs.Conditions.{Condition, always, never, comparison, opposite, end_of_all, all_of, end_of_any, any_of, condition_of}
+use Rattle.condition_tree.proofs.Trees.{each_leaf_gives}
+use Rattle.question_text.specs.Conditions.{Condition, Comparison, Sides, compares, condition_of}
 use Rattle.question_text.specs.Expressions.{CanCompare, CanTake, CanWeigh}
 use Rattle.question_text.specs.Limits.{CanAsk, IsComparison, IsCondition, IsName, IsTerm}
 use Rattle.question_text.specs.Names.{IsOf, row_at}
@@ -23,12 +24,11 @@ not_less : (a b : ℕ) → b ≤ a → nat_lt a b ≡ false
 not_less a b most = grind (arith, nat_tests, most)
 
 -- on the opening row and later each flow has the shape's states
-states_there : (shape : Shape) (r : Run) (i f : ℕ) → Fits shape r → 1 ≤ f → f ≤ shape.flows → shape.h ≤ i → i < length r.rows
+states_there : (shape : Shape) (r : Run) (i f : ℕ) → Shaped shape r → 1 ≤ f → f ≤ shape.flows → shape.h ≤ i → i < length r.rows
     → length (flow_of r i f).x ≡ shape.states
 states_there shape r i f fits from to later inside =
     let row = fits.each_row i inside in
-    let mine : FlowFits (state_count shape i) (flow_of r i f) = row.each_flow (f - 1) no_flow (let count = row.flow_count in omega arith) in
-    mine.x_count ∙ ap (λ b. if b then 0 else shape.states) (not_less i shape.h later)
+    row.each_flow (f - 1) no_flow (let count = row.flow_count in omega arith) ∙ ap (λ b. if b then 0 else shape.states) (not_less i shape.h later)
 
 -- the rows, flows and states that a question may name stand in the run
 record Standing (states : ℕ) (s : Setting) (r : Run) (at : Rows) : Type 0 where
@@ -76,26 +76,20 @@ comparison_ready states s r at left right stand is = record {
 
 condition_ready : (states : ℕ) (s : Setting) (r : Run) (at : Rows) (c : Condition) → Standing states s r at
     → IsCondition states s c → CanWeigh r at c
-condition_ready states s r at always stand is = tt
-condition_ready states s r at never stand is = tt
-condition_ready states s r at (comparison left rel right) stand is = comparison_ready states s r at left right stand is
-condition_ready states s r at (opposite c) stand is = condition_ready states s r at c stand is
-condition_ready states s r at end_of_all stand is = tt
-condition_ready states s r at (all_of c rest) stand is =
-    (condition_ready states s r at c stand is.0, condition_ready states s r at rest stand is.1)
-condition_ready states s r at end_of_any stand is = tt
-condition_ready states s r at (any_of c rest) stand is =
-    (condition_ready states s r at c stand is.0, condition_ready states s r at rest stand is.1)
+condition_ready states s r at c stand is = each_leaf_gives (Sides (IsComparison states s)) (Sides (CanCompare r at)) c by is
+  where
+    by : (l : Comparison) → Sides (IsComparison states s) l → Sides (CanCompare r at) l
+    by (compares left rel right) each = comparison_ready states s r at left right stand each
 
 standing : (q : Question) (r : Run) (ask : CanAsk q r) → Standing ask.states q.setting r (rows_of q r)
 standing q r ask =
     let shape = shape_of q.setting ask.states ask.delay_max in
-    let count = ask.run_in.row_count in
+    let count = ask.run_in.shaped.row_count in
     record {
       rows = λ t to. omega arith;
-      flows = (ask.run_in.each_row 0 (omega arith)).flow_count;
+      flows = (ask.run_in.shaped.each_row 0 (omega arith)).flow_count;
       states_at = λ f t from most to.
-          states_there shape r (row_at (rows_of q r) t) f ask.run_in from most (omega arith) (omega arith);
+          states_there shape r (row_at (rows_of q r) t) f ask.run_in.shaped from most (omega arith) (omega arith);
     }
 
 -- what the weighing of a question takes
@@ -109,7 +103,7 @@ pub record IsReady (q : Question) (r : Run) : Type 0 where
 pub ready : (q : Question) (r : Run) → CanAsk q r → IsReady q r
 ready q r ask =
     let set = ask.question_in.setting_in in
-    let count = ask.run_in.row_count in
+    let count = ask.run_in.shaped.row_count in
     record {
       run_in = record {
         shape = shape_of q.setting ask.states ask.delay_max;

@@ -11,7 +11,7 @@ use Rattle.condition_syntax.specs.declared.conditions.Style.TheVariants.{Questio
 use Rattle.condition_syntax.specs.declared.expressions.Name.{Name}
 use Rattle.condition_syntax.specs.declared.expressions.ETerm.{ETerm}
 use Rattle.condition_syntax.specs.declared.expressions.Expr.{Expr}
-use Rattle.condition_syntax.specs.Trees.{Condition, always, never, comparison, delay, opposite, end_of_all, all_of, end_of_any, any_of, comparisons, conjunction, disjunction, conjoined, disjoined}
+use Rattle.condition_syntax.specs.Trees.{Condition, always, never, comparison, leaf, compares, delayed, opposite, end_of_all, all_of, end_of_any, any_of, comparisons, conjunction, disjunction, conjoined, disjoined}
 use Rattle.condition_syntax.specs.Grammar.{SpellsName, placed, no_flow, SpellsTerm, constant, multiple, single, SpellsTerms, last_term, more_terms, SpellsExpr, unsigned, negative, Joined, one, more, SpellsSimple, truth, falsity, compared, SpellsOpened, simple, negated, bracketed, Nothing, SpellsConjunction, SpellsJoined, SpellsPart, SpellsCond, joint_of}
 use Rattle.ctrl_types.specs.Statements.{coefs, condition_numbers}
 
@@ -47,8 +47,8 @@ module _ (g : Name → Name) (short : (x : Name) → (g x ≡ x) ⊎ (g x ≡ wi
   abbrev pub cond_by : Condition → Condition
   cond_by always = always
   cond_by never = never
-  cond_by (comparison left rel right) = comparison (expr_by left) rel (expr_by right)
-  cond_by (delay q) = delay q
+  cond_by (leaf (compares left rel right)) = comparison (expr_by left) rel (expr_by right)
+  cond_by (leaf (delayed q)) = leaf (delayed q)
   cond_by (opposite c) = opposite (cond_by c)
   cond_by end_of_all = end_of_all
   cond_by (all_of c rest) = all_of (cond_by c) (cond_by rest)
@@ -62,9 +62,9 @@ module _ (g : Name → Name) (short : (x : Name) → (g x ≡ x) ⊎ (g x ≡ wi
   pub same_numbers : (c : Condition) → condition_numbers (cond_by c) ≡ condition_numbers c
   same_numbers always = refl
   same_numbers never = refl
-  same_numbers (comparison left rel right) =
+  same_numbers (leaf (compares left rel right)) =
       ap (λ (ns : List Num). ns ++ coefs (map term_by right.terms)) (same_coefs left.terms) ∙ ap (λ (ns : List Num). coefs left.terms ++ ns) (same_coefs right.terms)
-  same_numbers (delay q) = refl
+  same_numbers (leaf (delayed q)) = refl
   same_numbers (opposite c) = same_numbers c
   same_numbers end_of_all = refl
   same_numbers (all_of c rest) = ap (λ (ns : List Num). ns ++ condition_numbers (cond_by rest)) (same_numbers c) ∙ ap (λ (ns : List Num). condition_numbers c ++ ns) (same_numbers rest)
@@ -74,8 +74,8 @@ module _ (g : Name → Name) (short : (x : Name) → (g x ≡ x) ⊎ (g x ≡ wi
   same_count : (c : Condition) → comparisons (cond_by c) ≡ comparisons c
   same_count always = refl
   same_count never = refl
-  same_count (comparison left rel right) = refl
-  same_count (delay q) = refl
+  same_count (leaf (compares left rel right)) = refl
+  same_count (leaf (delayed q)) = refl
   same_count (opposite c) = same_count c
   same_count end_of_all = refl
   same_count (all_of c rest) = ap (λ (n : ℕ). n + comparisons (cond_by rest)) (same_count c) ∙ ap (λ (n : ℕ). comparisons c + n) (same_count rest)

@@ -1,10 +1,13 @@
 -- Which texts are those of questions for a controller depends on the controller only as it is seen, and what a question
 -- claims of a run depends on the question only as it is seen.
+use Rattle.run_rows.specs.Runs.{flow_count}
+use Rattle.claims.specs.Subjects.{in_run}
 use Rattle.std.proofs.Common.{◌≡◌, ℕ, Bool, List, [], Result, Ok, Some, map, inl, inr, ap, subst}
 use Rattle.std.specs.Prelude.{All}
 use Rattle.whole.specs.declared.answers.Refusal.{Refusal}
 use Rattle.whole.specs.declared.answers.Stuck.{Stuck}
-use Rattle.weighing.specs.Claim.{both_of, not_of, outcome}
+use Rattle.condition_tree.specs.Trees as trees
+use Rattle.weighing.specs.Claim.{outcome}
 use Rattle.weighing.specs.First.{IsFirst}
 use Rattle.run_rows.specs.declared.rows.Run.{Run}
 use Rattle.path_server.specs.declared.settings.Setting.{Setting}
@@ -73,7 +76,7 @@ unasked x = record { setting = x.setting; assumes = []; require = True }
 abbrev seen_violation : SeenQuestion → Run → Result Bool Stuck
 seen_violation x r =
     outcome (rows_of (unasked x) r).last
-    (both_of (condition_claim r (rows_of (unasked x) r) (conjunction x.assumes)) (not_of (condition_claim r (rows_of (unasked x) r) x.require)))
+    (trees.all_of (condition_claim (in_run r) (flow_count r 0) (rows_of (unasked x) r) (conjunction x.assumes)) (trees.opposite (condition_claim (in_run r) (flow_count r 0) (rows_of (unasked x) r) x.require)))
 
 pub violation_same : (q p : Question) → question_seen q ≡ question_seen p → (r : Run) → violation q r ≡ violation p r
 unfolding violation

@@ -1,31 +1,32 @@
 -- Sums of entries over the flows, and of one side after the other.
+use Rattle.run_rows.specs.Runs.{flow_count}
 use Rattle.std.proofs.Common.{◌≡◌, ℕ, zero, suc, ◌≤◌, ℤ, [], ◌∷◌, ◌++◌, refl, sym, ◌∙◌, ap, arith}
 use Rattle.weighing.specs.Weight.{Weight}
 use Rattle.weighing.specs.Weighed.{start, times, weighed, weighed_from}
 use Rattle.weighing.specs.declared.scales.Side.TheVariants.{Left, Right}
 use Rattle.run_rows.specs.declared.rows.Run.{Run}
-use Rattle.path_server.specs.Claims.{each_flow}
+use Rattle.claims.specs.Subjects.{each_flow, in_run}
 use Rattle.path_server.proofs.Flows.{weighed-append}
 use Rattle.question_text.specs.declared.names.Rows.{Rows}
 use Rattle.question_text.specs.declared.conditions.QLin.{QLin}
 use Rattle.question_text.specs.Expressions.{comparison_terms, lin_terms, scale_of_two}
 use Rattle.question_text.specs.Names.{flow_terms}
 
-pub terms_of_all : (k : ℤ) (entry : ℕ → ℤ) (n flow : ℕ) → flow ≡ 0 → each_flow (λ f. times k (entry f) ∷ []) n ≡ flow_terms k entry n flow
+pub terms_of_all : (k : ℤ) (entry : ℕ → ℤ) (n flow : ℕ) → flow ≡ 0 → each_flow (λ f. times k (entry f) ∷ []) n ≡ flow_terms times k entry n flow
 terms_of_all k entry n zero is = refl
 terms_of_all k entry n (suc f) is = absurd (omega (arith, is))
 
-pub terms_of_one : (k : ℤ) (entry : ℕ → ℤ) (n flow : ℕ) → 1 ≤ flow → times k (entry flow) ∷ [] ≡ flow_terms k entry n flow
+pub terms_of_one : (k : ℤ) (entry : ℕ → ℤ) (n flow : ℕ) → 1 ≤ flow → times k (entry flow) ∷ [] ≡ flow_terms times k entry n flow
 terms_of_one k entry n zero is = absurd (omega (arith, is))
 terms_of_one k entry n (suc f) is = refl
 
 -- the two sides of a comparison, one after the other
 pub sides : (r : Run) (at : Rows) (left right : QLin) (w0 w1 w2 : Weight) (scale : ℕ)
     → scale ≡ scale_of_two left right → w0 ≡ start at.last
-    → w1 ≡ weighed_from w0 (lin_terms r at Left scale left.terms) → w2 ≡ weighed_from w1 (lin_terms r at Right scale right.terms)
-    → w2 ≡ weighed at.last (comparison_terms r at left right)
+    → w1 ≡ weighed_from w0 (lin_terms (in_run r) (flow_count r 0) at Left scale left.terms) → w2 ≡ weighed_from w1 (lin_terms (in_run r) (flow_count r 0) at Right scale right.terms)
+    → w2 ≡ weighed at.last (comparison_terms (in_run r) (flow_count r 0) at left right)
 sides r at left right w0 w1 w2 scale same begun one two =
-    two ∙ ap (λ w. weighed_from w (lin_terms r at Right scale right.terms)) one
-    ∙ sym (weighed-append w0 (lin_terms r at Left scale left.terms) (lin_terms r at Right scale right.terms))
-    ∙ ap (λ w. weighed_from w (lin_terms r at Left scale left.terms ++ lin_terms r at Right scale right.terms)) begun
-    ∙ ap (λ s. weighed at.last (lin_terms r at Left s left.terms ++ lin_terms r at Right s right.terms)) same
+    two ∙ ap (λ w. weighed_from w (lin_terms (in_run r) (flow_count r 0) at Right scale right.terms)) one
+    ∙ sym (weighed-append w0 (lin_terms (in_run r) (flow_count r 0) at Left scale left.terms) (lin_terms (in_run r) (flow_count r 0) at Right scale right.terms))
+    ∙ ap (λ w. weighed_from w (lin_terms (in_run r) (flow_count r 0) at Left scale left.terms ++ lin_terms (in_run r) (flow_count r 0) at Right scale right.terms)) begun
+    ∙ ap (λ s. weighed at.last (lin_terms (in_run r) (flow_count r 0) at Left s left.terms ++ lin_terms (in_run r) (flow_count r 0) at Right s right.terms)) same

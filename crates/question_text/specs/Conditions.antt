@@ -1,29 +1,20 @@
 -- A condition of a question as a tree of the logic.
-use Rattle.std.specs.Prelude.{List, [], ◌∷◌}
 use Rattle.weighing.specs.declared.weighings.Rel5.{Rel5}
+use Rattle.condition_tree.specs.Trees.{EachLeaf}
+pub use Rattle.condition_tree.specs.Trees.{Tree, always, never, leaf, opposite, end_of_all, all_of, end_of_any, any_of, conjunction, disjunction}
 use Rattle.question_text.specs.declared.conditions.QLin.{QLin}
 use Rattle.question_text.specs.declared.conditions.QCond.{QCond}
 use Rattle.question_text.specs.declared.conditions.QCond.TheOpen.{QCond-F}
 use Rattle.question_text.specs.declared.conditions.QCond.TheFolds.{fold-QCond}
 
--- a conjunction is its first part and the conjunction of the others, and so is a disjunction
-pub data Condition : Type 0 where
-  always : Condition
-  never : Condition
-  comparison : QLin → Rel5 → QLin → Condition
-  opposite : Condition → Condition
-  end_of_all : Condition
-  all_of : Condition → Condition → Condition
-  end_of_any : Condition
-  any_of : Condition → Condition → Condition
+pub data Comparison : Type 0 where
+  compares : QLin → Rel5 → QLin → Comparison
 
-abbrev pub conjunction : List Condition → Condition
-conjunction [] = end_of_all
-conjunction (c ∷ cs) = all_of c (conjunction cs)
+abbrev pub Condition : Type 0
+Condition = Tree Comparison
 
-abbrev pub disjunction : List Condition → Condition
-disjunction [] = end_of_any
-disjunction (c ∷ cs) = any_of c (disjunction cs)
+abbrev pub comparison : QLin → Rel5 → QLin → Condition
+comparison left rel right = leaf (compares left rel right)
 
 -- one level of a condition, whose parts are already seen as trees
 abbrev pub condition_step : QCond-F Condition → Condition
@@ -37,13 +28,9 @@ condition_step (QCond-F.Or parts) = disjunction parts.items
 abbrev pub condition_of : QCond → Condition
 condition_of = fold-QCond Condition condition_step
 
+abbrev pub Sides : (QLin → QLin → Type 0) → Comparison → Type 0
+Sides P (compares left rel right) = P left right
+
 -- each comparison has such sides
 abbrev pub EachComparison : (QLin → QLin → Type 0) → Condition → Type 0
-EachComparison P always = Unit {0}
-EachComparison P never = Unit {0}
-EachComparison P (comparison left rel right) = P left right
-EachComparison P (opposite c) = EachComparison P c
-EachComparison P end_of_all = Unit {0}
-EachComparison P (all_of c rest) = EachComparison P c × EachComparison P rest
-EachComparison P end_of_any = Unit {0}
-EachComparison P (any_of c rest) = EachComparison P c × EachComparison P rest
+EachComparison P c = EachLeaf (Sides P) c

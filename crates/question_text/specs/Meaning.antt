@@ -1,14 +1,17 @@
 -- What a question means, over all whole numbers.
 -- The values of a comparison stand in units of 1 / (over * scale), in which each is whole; the scale is the least common
 -- multiple of the comparison's denominators.
-use Rattle.std.specs.Prelude.{ℕ, ℤ, pos, ◌+ℤ◌, ◌*ℤ◌, ◌⊎◌, List, [], ◌∷◌, ◌++◌, All, Result, Ok, Err}
+use Rattle.std.specs.Prelude.{ℕ, ℤ, pos, ◌+ℤ◌, ◌*ℤ◌, List, [], ◌∷◌, ◌++◌, All, Result, Ok, Err}
+use Rattle.run_rows.specs.Runs.{flow_count}
+use Rattle.claims.specs.Subjects.{in_run}
 use Rattle.whole.specs.declared.answers.Stuck.{Stuck}
 use Rattle.weighing.specs.First.{IsFirst}
 use Rattle.weighing.specs.Weighed.{weighed}
 use Rattle.weighing.specs.declared.weighings.Term.{Term}
 use Rattle.run_rows.specs.declared.rows.Run.{Run}
 use Rattle.ctrl_meaning.specs.Meaning.{Compares, number}
-use Rattle.question_text.specs.Conditions.{Condition, always, never, comparison, opposite, end_of_all, all_of, end_of_any, any_of, condition_of}
+use Rattle.condition_tree.specs.Trees.{Truth, folded, gathering}
+use Rattle.question_text.specs.Conditions.{Condition, Comparison, compares, condition_of}
 use Rattle.question_text.specs.Expressions.{comparison_terms, scale_of_two}
 use Rattle.question_text.specs.Names.{amount}
 use Rattle.question_text.specs.Violation.{assumptions, rows_of}
@@ -22,17 +25,13 @@ abbrev pub value : Run → Rows → ℕ → List QTerm → ℤ
 value r at scale [] = pos 0
 value r at scale (t ∷ terms) = (number scale t.coef *ℤ amount r at t.of) +ℤ value r at scale terms
 
+abbrev pub ComparisonHolds : Run → Rows → Comparison → Type 0
+ComparisonHolds r at (compares left rel right) =
+    Compares rel (value r at (scale_of_two left right) left.terms) (value r at (scale_of_two left right) right.terms)
+
 -- a condition is true as its comparisons and connectives say
 abbrev pub IsTrueIn : Run → Rows → Condition → Type 0
-IsTrueIn r at always = Unit {0}
-IsTrueIn r at never = ⊥
-IsTrueIn r at (comparison left rel right) =
-    Compares rel (value r at (scale_of_two left right) left.terms) (value r at (scale_of_two left right) right.terms)
-IsTrueIn r at (opposite c) = IsTrueIn r at c → ⊥
-IsTrueIn r at end_of_all = Unit {0}
-IsTrueIn r at (all_of c rest) = IsTrueIn r at c × IsTrueIn r at rest
-IsTrueIn r at end_of_any = ⊥
-IsTrueIn r at (any_of c rest) = IsTrueIn r at c ⊎ IsTrueIn r at rest
+IsTrueIn r at c = Truth (ComparisonHolds r at) c
 
 abbrev pub HoldsIn : Question → Run → QCond → Type 0
 HoldsIn q r c = IsTrueIn r (rows_of q r) (condition_of c)
@@ -42,16 +41,12 @@ pub record Violates (q : Question) (r : Run) : Type 0 where
   pub assumed : All (HoldsIn q r) q.assumes
   pub broken : HoldsIn q r q.require → ⊥
 
+abbrev pub terms_of : Run → Rows → Comparison → List (List Term)
+terms_of r at (compares left rel right) = comparison_terms (in_run r) (flow_count r 0) at left right ∷ []
+
 -- the comparisons of a condition, in their written order, each as the terms that are weighed
 abbrev pub comparisons_of : Run → Rows → Condition → List (List Term)
-comparisons_of r at always = []
-comparisons_of r at never = []
-comparisons_of r at (comparison left rel right) = comparison_terms r at left right ∷ []
-comparisons_of r at (opposite c) = comparisons_of r at c
-comparisons_of r at end_of_all = []
-comparisons_of r at (all_of c rest) = comparisons_of r at c ++ comparisons_of r at rest
-comparisons_of r at end_of_any = []
-comparisons_of r at (any_of c rest) = comparisons_of r at c ++ comparisons_of r at rest
+comparisons_of r at c = folded (gathering [] (λ (xs ys : List (List Term)). xs ++ ys)) (terms_of r at) c
 
 -- what stops a comparison's weighing, if anything does
 abbrev pub stop_of : {X : Type 0} → Result X Stuck → Result (Unit {0}) Stuck

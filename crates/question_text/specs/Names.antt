@@ -1,10 +1,8 @@
 -- What the names of a question stand for in a run, and how they are weighed.
 use Rattle.std.specs.Prelude.{ℕ, zero, suc, ◌+◌, ◌<◌, ◌≤◌, ℤ, List, [], ◌∷◌, length}
-use Rattle.weighing.specs.Weighed.{times}
-use Rattle.weighing.specs.declared.weighings.Term.{Term}
 use Rattle.run_rows.specs.Runs.{arrived, flow_count, flow_of, lost, over_flows, served, state_of, waste}
 use Rattle.run_rows.specs.declared.rows.Run.{Run}
-use Rattle.path_server.specs.Claims.{each_flow}
+use Rattle.claims.specs.Subjects.{Subject, constant, of_credit, of_waste, of_arrivals, of_service, of_losses, of_state, each_flow}
 use Rattle.question_text.specs.declared.names.Rows.{Rows}
 use Rattle.question_text.specs.declared.names.Count.{Count}
 use Rattle.question_text.specs.declared.names.Count.TheVariants.{Arrived, Served, Lost}
@@ -36,19 +34,19 @@ amount r at (S f t) = flow_amount (served r (row_at at t)) (flow_count r 0) f
 amount r at (L f t) = flow_amount (lost r (row_at at t)) (flow_count r 0) f
 amount r at (X j f t) = state_of r (row_at at t) f j
 
--- a multiple of it, as terms: the sum over the flows is one term for each flow
-abbrev pub flow_terms : ℤ → (ℕ → ℤ) → ℕ → ℕ → List Term
-flow_terms k entry n zero = each_flow (λ f. times k (entry f) ∷ []) n
-flow_terms k entry n (suc f) = times k (entry (suc f)) ∷ []
+-- a multiple of it, as terms: the sum over n flows is one term for each flow
+abbrev pub flow_terms : {S T : Type 0} → (ℤ → S → T) → ℤ → (ℕ → S) → ℕ → ℕ → List T
+flow_terms term k of n zero = each_flow (λ f. term k (of f) ∷ []) n
+flow_terms term k of n (suc f) = term k (of (suc f)) ∷ []
 
-abbrev pub of_terms : Run → Rows → ℤ → Of → List Term
-of_terms r at k One = times k r.over ∷ []
-of_terms r at k Credit = times k r.credit ∷ []
-of_terms r at k (W t) = times k (waste r (row_at at t)) ∷ []
-of_terms r at k (A f t) = flow_terms k (counted r Arrived (row_at at t)) (flow_count r 0) f
-of_terms r at k (S f t) = flow_terms k (counted r Served (row_at at t)) (flow_count r 0) f
-of_terms r at k (L f t) = flow_terms k (counted r Lost (row_at at t)) (flow_count r 0) f
-of_terms r at k (X j f t) = times k (state_of r (row_at at t) f j) ∷ []
+abbrev pub of_terms : {T : Type 0} → (ℤ → Subject → T) → ℕ → Rows → ℤ → Of → List T
+of_terms term n at k One = term k constant ∷ []
+of_terms term n at k Credit = term k of_credit ∷ []
+of_terms term n at k (W t) = term k (of_waste (row_at at t)) ∷ []
+of_terms term n at k (A f t) = flow_terms term k (of_arrivals (row_at at t)) n f
+of_terms term n at k (S f t) = flow_terms term k (of_service (row_at at t)) n f
+of_terms term n at k (L f t) = flow_terms term k (of_losses (row_at at t)) n f
+of_terms term n at k (X j f t) = term k (of_state (row_at at t) f j) ∷ []
 
 -- the run has the flow, or the sum, at the step
 pub record HasFlow (r : Run) (at : Rows) (f t : ℕ) : Type 0 where

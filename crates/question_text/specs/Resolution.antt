@@ -6,7 +6,7 @@ use Rattle.whole.specs.declared.answers.Refusal.{Refusal}
 use Rattle.weighing.specs.declared.scales.Num.{Num}
 use Rattle.path_server.specs.declared.settings.Setting.{Setting}
 use Rattle.condition_syntax.specs.Trees as written
-use Rattle.condition_syntax.specs.Limits.{EachExpr, EachDelay}
+use Rattle.condition_syntax.specs.Trees.{EachExpr, EachDelay}
 use Rattle.question_syntax.specs.Limits.{IsPlacedExpr, NoDelay}
 use Rattle.ctrl_types.specs.Denominators.{with_numbers}
 use Rattle.ctrl_types.specs.Names.{is_kind}
@@ -19,7 +19,8 @@ use Rattle.question_syntax.specs.Sections.{Sections, Wanted}
 use Rattle.question_syntax.specs.Reading.{refusal}
 use Rattle.question_syntax.specs.declared.syntax.ConditionLine.{ConditionLine}
 use Rattle.question_syntax.specs.declared.syntax.QuestionSyntax.{QuestionSyntax}
-use Rattle.question_text.specs.Conditions.{Condition, always, never, comparison, opposite, end_of_all, all_of, end_of_any, any_of}
+use Rattle.condition_tree.specs.Trees.{folded, gathering}
+use Rattle.question_text.specs.Conditions.{Condition, Comparison, compares}
 use Rattle.question_text.specs.Resolving.{SeenQuestion, against, buffer_numbers, kind_of, meant, number_of}
 use Rattle.question_text.specs.declared.conditions.QLin.{QLin}
 use Rattle.question_text.specs.declared.conditions.QTerm.{QTerm}
@@ -43,16 +44,12 @@ lin_has states kind lin = list_any (λ (t : QTerm). is_kind kind (kind_of states
 unfoldable pub lins_mix : List State → QLin → QLin → Bool
 lins_mix states left right = (lin_has states Amount left || lin_has states Amount right) && (lin_has states Count left || lin_has states Count right)
 
+abbrev pub sides_mix : List State → Comparison → Bool
+sides_mix states (compares left rel right) = lins_mix states left right
+
 -- whether both kinds stand in one comparison of the condition
 unfoldable pub mixes : List State → Condition → Bool
-mixes states always = false
-mixes states never = false
-mixes states (comparison left rel right) = lins_mix states left right
-mixes states (opposite c) = mixes states c
-mixes states end_of_all = false
-mixes states (all_of c rest) = mixes states c || mixes states rest
-mixes states end_of_any = false
-mixes states (any_of c rest) = mixes states c || mixes states rest
+mixes states c = folded (gathering false (λ (a b : Bool). a || b)) (sides_mix states) c
 
 -- ---- lines
 

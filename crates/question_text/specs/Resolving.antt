@@ -80,9 +80,13 @@ kind_of states (S f t) = Some Amount
 kind_of states (L f t) = Some Amount
 kind_of states (X j f t) = option_map (λ (state : State). state.kind) (slice_get states j)
 
+-- the kind of a term's name, if it has one that is known
+abbrev pub kind_in : List State → Setting → ETerm → Option Kind
+kind_in states s t = option_and_then (kind_of states) (of_written states s t.name)
+
 -- whether a known name of the expression has this kind
 unfoldable pub names_kind : List State → Setting → Kind → List ETerm → Bool
-names_kind states s kind terms = list_any (λ (t : ETerm). is_kind kind (option_and_then (kind_of states) (of_written states s t.name))) terms
+names_kind states s kind terms = list_any (λ (t : ETerm). is_kind kind (kind_in states s t)) terms
 
 -- ---- the rules
 
@@ -151,8 +155,8 @@ joined join (Some c) (Some rest) = Some (join c rest)
 unfoldable pub meant : List State → Setting → written.Condition → Option Condition
 meant states s written.always = Some always
 meant states s written.never = Some never
-meant states s (written.comparison left rel right) = compared rel (lin_meant states s left) (lin_meant states s right)
-meant states s (written.delay q) = None
+meant states s (written.leaf (written.compares left rel right)) = compared rel (lin_meant states s left) (lin_meant states s right)
+meant states s (written.leaf (written.delayed q)) = None
 meant states s (written.opposite c) = option_map opposite (meant states s c)
 meant states s written.end_of_all = Some end_of_all
 meant states s (written.all_of c rest) = joined all_of (meant states s c) (meant states s rest)

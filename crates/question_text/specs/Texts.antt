@@ -2,13 +2,16 @@
 use Rattle.std.specs.Prelude.{ℕ, List, ◌⊎◌, map}
 use Rattle.whole.specs.declared.answers.Refusal.{Refusal}
 use Rattle.path_server.specs.declared.settings.Setting.{Setting}
+use Rattle.condition_tree.specs.Trees.{with_leaves}
+use Rattle.weighing.specs.declared.scales.Num.{Num}
+use Rattle.condition_syntax.specs.declared.expressions.Expr.{Expr}
 use Rattle.condition_syntax.specs.Trees as written
 use Rattle.ctrl_types.specs.declared.controllers.Controller.{Controller}
 use Rattle.ctrl_types.specs.declared.controllers.State.{State}
 use Rattle.question_syntax.specs.Grammar.{IsText}
 use Rattle.question_syntax.specs.Refused as syntax
 use Rattle.question_syntax.specs.Sections.{Sections, Wanted}
-use Rattle.question_text.specs.Conditions.{Condition, always, never, comparison, opposite, end_of_all, all_of, end_of_any, any_of}
+use Rattle.question_text.specs.Conditions.{Condition, Comparison, compares}
 use Rattle.question_text.specs.Naming.{lin_written}
 use Rattle.question_text.specs.Resolving.{IsFirstBroken, IsUnbroken, Resolves, SeenQuestion}
 
@@ -35,16 +38,12 @@ IsRefused c bytes r = syntax.IsRefused bytes r ⊎ BreaksFirst c bytes r
 
 -- ---- what is printed
 
+abbrev pub comparison_written : List State → Setting → Comparison → written.Leaf Expr Num
+comparison_written states s (compares left rel right) = written.compares (lin_written states s left) rel (lin_written states s right)
+
 -- the condition with the canonical names
 unfoldable pub condition_written : List State → Setting → Condition → written.Condition
-condition_written states s always = written.always
-condition_written states s never = written.never
-condition_written states s (comparison left rel right) = written.comparison (lin_written states s left) rel (lin_written states s right)
-condition_written states s (opposite c) = written.opposite (condition_written states s c)
-condition_written states s end_of_all = written.end_of_all
-condition_written states s (all_of c rest) = written.all_of (condition_written states s c) (condition_written states s rest)
-condition_written states s end_of_any = written.end_of_any
-condition_written states s (any_of c rest) = written.any_of (condition_written states s c) (condition_written states s rest)
+condition_written states s c = with_leaves (comparison_written states s) c
 
 abbrev pub wanted_written : List State → Setting → Condition → Wanted
 wanted_written states s c = record { cond = condition_written states s c; line = 0 }

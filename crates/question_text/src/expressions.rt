@@ -1,6 +1,8 @@
 //! Expressions as they are weighed: term by term, at a scale that all denominators of the comparison divide.
+ghost use Rattle.condition_tree.specs.Trees.{leaf};
+ghost use Rattle.claims.specs.Subjects.{in_run};
 ghost use Rattle.std.specs.Prelude.{◌≡◌, ◌≤◌, All};
-ghost use Rattle.run_rows.specs.Runs.{IsRun};
+ghost use Rattle.run_rows.specs.Runs.{IsRun, flow_count};
 ghost use Rattle.weighing.specs.Claim.{outcome};
 ghost use Rattle.weighing.specs.Weighed.{weighed_from};
 ghost use Rattle.question_text.specs.Expressions.{CanCompare, CanTake, HasNum, IsLeastScale, comparison_claim, lin_terms, scale_of_two, scale_with};
@@ -15,7 +17,7 @@ use whole::Stuck;
 pub fn comparison(left: &QLin, rel: Rel5, right: &QLin, run: &Run, at: &Rows) -> Result<bool, Stuck>
     requires run_in { IsRun run.now }
     requires can { CanCompare run.now at.now left.now right.now }
-    ensures { result ≡ outcome at.now.last (comparison_claim run.now at.now left.now rel right.now) }
+    ensures { result ≡ outcome at.now.last (leaf (comparison_claim (in_run run.now) (flow_count run.now 0) at.now left.now rel right.now)) }
 {
     let scale = scale_of_two(left, right);
     let left_sum = plus_lin(Weighing::new(at.last), run, at, Side::Left, scale, left);
@@ -39,7 +41,7 @@ fn plus_lin(start: Weighing, run: &Run, at: &Rows, side: Side, scale: u32, lin: 
     requires run_in { IsRun run.now }
     requires terms_in { All (CanTake run.now at.now) lin.now.terms }
     requires scale_to { scale ≤ 1000000 }
-    ensures { result ≡ weighed_from start (lin_terms run.now at.now side scale lin.now.terms) }
+    ensures { result ≡ weighed_from start (lin_terms (in_run run.now) (flow_count run.now 0) at.now side scale lin.now.terms) }
 {
     let mut weighing = start;
     for term in lin.terms.as_slice() {

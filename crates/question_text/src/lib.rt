@@ -27,6 +27,8 @@ mod writing;
 pub use conditions::{Of, QCond, QLin, QTerm};
 pub use question_syntax::read_setting;
 pub use questions::Question;
-pub use telling::{names_stand_by_their_cases, questions_are_told_apart};
+pub use telling::{
+    kinds_are_mixed_by_two_terms, names_stand_by_their_cases, questions_are_told_apart,
+};
 pub use texts::{print, read};
 pub use violation::violates;

@@ -2,7 +2,7 @@
 ghost use Rattle.std.specs.Prelude.{◌≡◌, ◌<◌, ◌≤◌, [], ◌∷◌, length, unsigned_abs};
 ghost use Rattle.run_rows.specs.Runs.{IsEntry, IsRun, flow_count};
 ghost use Rattle.weighing.specs.Weighed.{times, weighed_from};
-ghost use Rattle.path_server.specs.Claims.{each_flow};
+ghost use Rattle.claims.specs.Subjects.{each_flow, in_run};
 ghost use Rattle.question_text.specs.Names.{IsOf, counted, flow_terms, of_terms, row_at};
 
 use crate::conditions::Of;
@@ -32,7 +32,7 @@ pub fn plus_of(weighing: Weighing, run: &Run, at: &Rows, factor: i128, of: Of) -
     requires run_in { IsRun run.now }
     requires of_in { IsOf run.now at.now of }
     requires factor_to { unsigned_abs factor ≤ 1000000000000 }
-    ensures { result ≡ weighed_from weighing (of_terms run.now at.now factor of) }
+    ensures { result ≡ weighed_from weighing (of_terms (in_run run.now) (flow_count run.now 0) at.now factor of) }
 {
     match of {
         Of::One => weighing.plus(factor, run.over),
@@ -80,7 +80,7 @@ fn plus_count(
     requires row_in { row < length run.now.rows }
     requires flow_to { flow ≤ flow_count run.now 0 }
     requires factor_to { unsigned_abs factor ≤ 1000000000000 }
-    ensures { result ≡ weighed_from start (flow_terms factor (counted run.now count row) (flow_count run.now 0) flow) }
+    ensures { result ≡ weighed_from start (flow_terms times factor (counted run.now count row) (flow_count run.now 0) flow) }
 {
     if flow == 0 {
         return plus_each(start, run, row, count, factor);

@@ -1,20 +1,30 @@
 // What holds of questions for a controller as texts, and of the names in them, as contracts of functions that do nothing.
-ghost use Rattle.std.specs.Prelude.{◌≡◌, ℕ, List, Some};
+ghost use Rattle.std.specs.Prelude.{◌≡◌, ◌⊎◌, ◌↔◌, ◌++◌, ℕ, List, Some, true};
 ghost use Rattle.whole.specs.declared.answers.Refusal.{Refusal};
 ghost use Rattle.path_server.specs.declared.settings.Setting.{Setting};
+ghost use Rattle.condition_syntax.specs.declared.expressions.Expr.{Expr};
 ghost use Rattle.condition_syntax.specs.declared.expressions.Name.{Name};
+ghost use Rattle.ctrl_types.specs.Names.{HaveTwoKinds};
 ghost use Rattle.ctrl_types.specs.declared.controllers.Controller.{Controller};
 ghost use Rattle.ctrl_types.specs.declared.controllers.State.{State};
+ghost use Rattle.ctrl_types.specs.Limits.{IsController};
 ghost use Rattle.question_text.specs.declared.conditions.Of.{Of};
 ghost use Rattle.question_text.specs.Naming.{StandsFor, of_named};
-ghost use Rattle.question_text.specs.Resolving.{SeenQuestion};
+ghost use Rattle.question_text.specs.Resolving.{SeenQuestion, kind_in, mixed_sides};
 ghost use Rattle.question_text.specs.Texts.{IsRefused, IsTextOf};
 
-/// A question's text says one thing alone for a controller, or it has one first broken rule alone.
+/// A question's text says one thing alone for a controller, or it has one first broken rule alone; and one of the
+/// two is so.
 pub fn questions_are_told_apart()
     ensures one_question { (c : Controller) (bytes : List ℕ) (p q : SeenQuestion) → IsTextOf c bytes p → IsTextOf c bytes q → p ≡ q }
     ensures one_refusal { (c : Controller) (bytes : List ℕ) (r s : Refusal) → IsRefused c bytes r → IsRefused c bytes s → r ≡ s }
     ensures not_both { (c : Controller) (bytes : List ℕ) (r : Refusal) (q : SeenQuestion) → IsRefused c bytes r → IsTextOf c bytes q → ⊥ }
+    ensures either { (c : Controller) (bytes : List ℕ) → IsController c → ((q : SeenQuestion) × IsTextOf c bytes q) ⊎ ((r : Refusal) × IsRefused c bytes r) }
+{}
+
+/// A comparison mixes kinds exactly where two of its terms have different kinds.
+pub fn kinds_are_mixed_by_two_terms()
+    ensures { (states : List State) (s : Setting) (left right : Expr) → (mixed_sides states s left right ≡ true) ↔ HaveTwoKinds (kind_in states s) (left.terms ++ right.terms) }
 {}
 
 /// A name stands for what its cases say, and for nothing else.

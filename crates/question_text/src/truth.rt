@@ -1,6 +1,7 @@
 //! Conditions, all of whose comparisons are weighed, in order, before the condition's truth is taken.
+ghost use Rattle.claims.specs.Subjects.{in_run};
 ghost use Rattle.std.specs.Prelude.{◌≡◌, map};
-ghost use Rattle.run_rows.specs.Runs.{IsRun};
+ghost use Rattle.run_rows.specs.Runs.{IsRun, flow_count};
 ghost use Rattle.weighing.specs.Claim.{outcome};
 ghost use Rattle.question_text.specs.Conditions.{conjunction, condition_of, disjunction};
 ghost use Rattle.question_text.specs.Expressions.{CanWeigh, condition_claim};
@@ -17,7 +18,7 @@ use whole::Stuck;
 pub fn holds(condition: &QCond, run: &Run, at: &Rows) -> Result<bool, Stuck>
     requires run_in { IsRun run.now }
     requires can { CanWeigh run.now at.now (condition_of condition.now) }
-    ensures { result ≡ outcome at.now.last (condition_claim run.now at.now (condition_of condition.now)) }
+    ensures { result ≡ outcome at.now.last (condition_claim (in_run run.now) (flow_count run.now 0) at.now (condition_of condition.now)) }
 {
     match condition {
         QCond::True => Ok(true),
@@ -34,7 +35,7 @@ pub fn holds(condition: &QCond, run: &Run, at: &Rows) -> Result<bool, Stuck>
 fn all_hold(parts: &Vec<QCond>, run: &Run, at: &Rows) -> Result<bool, Stuck>
     requires run_in { IsRun run.now }
     requires can { CanWeigh run.now at.now (conjunction (map condition_of parts.now.items)) }
-    ensures { result ≡ outcome at.now.last (condition_claim run.now at.now (conjunction (map condition_of parts.now.items))) }
+    ensures { result ≡ outcome at.now.last (condition_claim (in_run run.now) (flow_count run.now 0) at.now (conjunction (map condition_of parts.now.items))) }
 {
     let mut all = Ok(true);
     for part in parts {
@@ -48,7 +49,7 @@ fn all_hold(parts: &Vec<QCond>, run: &Run, at: &Rows) -> Result<bool, Stuck>
 fn any_holds(parts: &Vec<QCond>, run: &Run, at: &Rows) -> Result<bool, Stuck>
     requires run_in { IsRun run.now }
     requires can { CanWeigh run.now at.now (disjunction (map condition_of parts.now.items)) }
-    ensures { result ≡ outcome at.now.last (condition_claim run.now at.now (disjunction (map condition_of parts.now.items))) }
+    ensures { result ≡ outcome at.now.last (condition_claim (in_run run.now) (flow_count run.now 0) at.now (disjunction (map condition_of parts.now.items))) }
 {
     let mut any = Ok(false);
     for part in parts {

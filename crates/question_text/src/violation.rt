@@ -1,6 +1,7 @@
 //! Whether a run meets all assumptions of a question and breaks its requirement.
+ghost use Rattle.claims.specs.Subjects.{in_run};
 ghost use Rattle.std.specs.Prelude.{◌≡◌, Ok, Err, true, false};
-ghost use Rattle.run_rows.specs.Runs.{IsRun};
+ghost use Rattle.run_rows.specs.Runs.{IsRun, flow_count};
 ghost use Rattle.weighing.specs.Claim.{outcome};
 ghost use Rattle.whole.specs.declared.answers.Stuck.{Stuck};
 ghost use Rattle.question_text.specs.Expressions.{CanWeigh, condition_claim};
@@ -49,7 +50,7 @@ fn examine(question: &Question, run: &Run) -> Result<bool, Stuck>
 fn all_assumed(question: &Question, run: &Run, at: &Rows) -> Result<bool, Stuck>
     requires run_in { IsRun run.now }
     requires can { CanWeigh run.now at.now (assumptions question.now) }
-    ensures { result ≡ outcome at.now.last (condition_claim run.now at.now (assumptions question.now)) }
+    ensures { result ≡ outcome at.now.last (condition_claim (in_run run.now) (flow_count run.now 0) at.now (assumptions question.now)) }
 {
     let mut all = Ok(true);
     for assumption in question.assumes.as_slice() {

@@ -54,24 +54,47 @@ IsEntry z = unsigned_abs z < 2 ^ 127
 abbrev pub state_count : Shape → ℕ → ℕ
 state_count shape i = if nat_lt i shape.h then 0 else shape.states
 
-pub record FlowFits (states : ℕ) (flow : FlowRow) : Type 0 where
+-- ---- a shape: how many rows, flows and states. The numbers have any size
+
+pub record RowShaped (flows states : ℕ) (row : Row) : Type 0 where
+  pub flow_count : length row.flows ≡ flows
+  pub each_flow : All (λ (flow : FlowRow). length flow.x ≡ states) row.flows
+
+pub record Shaped (shape : Shape) (r : Run) : Type 0 where
+  pub over_from : pos 1 ≤ℤ r.over
+  pub row_count : length r.rows ≡ shape.h + shape.t + 1
+  pub each_row : (i : ℕ) → i < length r.rows → RowShaped shape.flows (state_count shape i) (row_of r i)
+
+-- ---- entries within 128 bits, as those of the code are
+
+pub record FlowBounded (flow : FlowRow) : Type 0 where
   pub a_in : IsEntry flow.a
   pub s_in : IsEntry flow.s
   pub l_in : IsEntry flow.l
-  pub x_count : length flow.x ≡ states
   pub x_in : All IsEntry flow.x
 
-pub record RowFits (flows states : ℕ) (row : Row) : Type 0 where
+pub record RowBounded (row : Row) : Type 0 where
   pub w_in : IsEntry row.w
-  pub flow_count : length row.flows ≡ flows
-  pub each_flow : All (FlowFits states) row.flows
+  pub each_flow : All FlowBounded row.flows
 
-pub record Fits (shape : Shape) (r : Run) : Type 0 where
-  pub over_from : pos 1 ≤ℤ r.over
+pub record Bounded (r : Run) : Type 0 where
   pub over_in : IsEntry r.over
   pub credit_in : IsEntry r.credit
-  pub row_count : length r.rows ≡ shape.h + shape.t + 1
-  pub each_row : (i : ℕ) → i < length r.rows → RowFits shape.flows (state_count shape i) (row_of r i)
+  pub each_row : (i : ℕ) → i < length r.rows → RowBounded (row_of r i)
+
+-- ---- what the code asks of a flow, of a row and of a run: both
+
+pub record FlowFits (states : ℕ) (flow : FlowRow) : Type 0 where
+  pub shaped : length flow.x ≡ states
+  pub bounded : FlowBounded flow
+
+pub record RowFits (flows states : ℕ) (row : Row) : Type 0 where
+  pub shaped : RowShaped flows states row
+  pub bounded : RowBounded row
+
+pub record Fits (shape : Shape) (r : Run) : Type 0 where
+  pub shaped : Shaped shape r
+  pub bounded : Bounded r
 
 -- a run of some shape within the limits
 pub record IsRun (r : Run) : Type 0 where

@@ -7,8 +7,8 @@ use Rattle.std.proofs.lemmas.List.Elements.{All-nil}
 use Rattle.std.proofs.Math.Nat.{one-dvd}
 use Rattle.weighing.specs.Scaled.{IsNum, den_of}
 use Rattle.weighing.specs.declared.scales.Num.{Num}
-use Rattle.ctrl_types.specs.Limits.{IsController, IsLin, IsRule, IsSource, LinsAre, NumsAre, OptionalLin, RuleLins, TestDelays, TestLins}
-use Rattle.ctrl_types.specs.Tests.{comparisons, test_of}
+use Rattle.ctrl_types.specs.Limits.{IsController, IsLin, IsRule, IsSource, LinsAre, NumsAre, OptionalLin, RuleLins}
+use Rattle.ctrl_types.specs.Tests.{EachDelay, EachExpr, test_of, comparisons}
 use Rattle.ctrl_types.specs.declared.controllers.Controller.{Controller}
 use Rattle.ctrl_types.specs.declared.controllers.Rule.{Rule}
 use Rattle.ctrl_types.specs.declared.controllers.State.{State}
@@ -34,7 +34,7 @@ term = record { coef = plain (pos 2); of = One }
 
 lins_are : (Q : Lin → Type 0) → Q controller.window → LinsAre Q controller
 lins_are Q window = record {
-  rules = one_of (RuleLins Q) rule (record { guard = subst (TestLins Q) (sym true_test) tt; sets = All-nil (OptionalLin Q) });
+  rules = one_of (RuleLins Q) rule (record { guard = subst (EachExpr Q) (sym true_test) tt; sets = All-nil (OptionalLin Q) });
   window = window;
   rate = tt;
 }
@@ -59,7 +59,7 @@ controller_in = record {
   den_common = nums_are (λ n. den_of n ∣ 1) (one-dvd 1);
   den_least = λ m divides. one-dvd m;
   delay_to = omega arith;
-  delay_reached = one_of (λ (r : Rule). TestDelays (λ k. k ≤ 0) (test_of r.guard)) rule (subst (TestDelays (λ k. k ≤ 0)) (sym true_test) tt);
+  delay_reached = one_of (λ (r : Rule). EachDelay (λ k. k ≤ 0) (test_of r.guard)) rule (subst (EachDelay (λ k. k ≤ 0)) (sym true_test) tt);
   delay_least = λ m within. omega arith;
 }
 

@@ -1,12 +1,5 @@
-pub mod ItemsTaken
-pub mod LinesTaken
-pub mod ItemsAgain
-pub mod LinesAgain
 pub mod ExampleLimits
-pub mod Exactness
 pub mod Findings
-pub mod Forms
 pub mod PlaceLaws
-pub mod Refusals
 pub mod ReplayLaws
 pub mod SeenLaws

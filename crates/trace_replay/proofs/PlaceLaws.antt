@@ -6,6 +6,7 @@ use Rattle.std.proofs.lemmas.Bool.Decides.{nat_tests}
 use Rattle.std.proofs.lemmas.List.Elements.{All-append, All-cons, All-map, All-nil, All-same}
 use Rattle.whole.specs.declared.answers.Stuck.{Stuck}
 use Rattle.weighing.specs.First.{below}
+use Rattle.run_rows.specs.Runs.{Bounded}
 use Rattle.run_rows.specs.declared.rows.Run.{Run}
 use Rattle.path_server.specs.Limits.{IsSetting}
 use Rattle.path_server.specs.Places.{places_of_row as rules_of_row}
@@ -13,7 +14,7 @@ use Rattle.path_server.specs.declared.settings.Setting.{Setting}
 use Rattle.path_server.proofs.AdmissionLaws.{all_below, all_flat_map, breaks_at, holds_on_row, rule_holds}
 use Rattle.ctrl_types.specs.Limits.{IsController}
 use Rattle.ctrl_types.specs.declared.controllers.Controller.{Controller}
-use Rattle.ctrl_meaning.specs.Limits.{FitsBoth, IsControlled}
+use Rattle.ctrl_meaning.specs.Limits.{FitsBoth, HasShape, IsControlled}
 use Rattle.ctrl_meaning.specs.Meaning.{IsStuckInOpening, IsStuckInStep, StateAgrees, Steps, OpensWithin}
 use Rattle.ctrl_meaning.specs.Opening.{opening, opening_row}
 use Rattle.ctrl_meaning.specs.Steps.{sending, step, stepping}
@@ -189,7 +190,7 @@ flows_hold P h n i on after =
     ]
 
 -- a fact of every place of a row, where it is known of each kind of place
-row_holds : (P : Place → Type 0) (c : Controller) (q : Question) (r : Run) (i : ℕ) → FitsBoth c q.setting r → i < length r.rows
+row_holds : (P : Place → Type 0) (c : Controller) (q : Question) (r : Run) (i : ℕ) → HasShape c q.setting r → i < length r.rows
     → All (λ p. P (obeys p)) (rules_of_row r i)
     → ((f : ℕ) → 1 ≤ f → f ≤ q.setting.flows → P (opens f))
     → ((f : ℕ) → IsReadable c q.setting i f → P (steps i f))
@@ -213,7 +214,7 @@ row_holds P c q r i shaped inside obeyed opened stepped sent =
     (each_holds P (sends i) q.setting.flows (λ f from to. sent f (at f from to)))))
 
 -- a run of the right shape is asked at such places alone
-pub places_are : (c : Controller) (q : Question) (r : Run) → FitsBoth c q.setting r → All (IsPlace c q) (places_of_rows c q r)
+pub places_are : (c : Controller) (q : Question) (r : Run) → HasShape c q.setting r → All (IsPlace c q) (places_of_rows c q r)
 unfolding places_of_rows
 places_are c q r shaped =
     all_flat_map (IsPlace c q) (places_of_row c q r) (below (length r.rows))
@@ -230,6 +231,6 @@ held_on_rows c q r run_of =
     (λ f at. let one = run_of.stepped i f at.controlled at.from at.to in (one.0, one.1.steps))
     (λ f at. let one = run_of.stepped i f at.controlled at.from at.to in one.1.sends)))
 
-pub held_everywhere : (c : Controller) (q : Question) (r : Run) → RunOf c q r → All (HoldsAt c q r) (places c q r)
-held_everywhere c q r run_of =
-    All-cons (HoldsAt c q r) fits (places_of_rows c q r) run_of.shaped (held_on_rows c q r run_of)
+pub held_everywhere : (c : Controller) (q : Question) (r : Run) → Bounded r → RunOf c q r → All (HoldsAt c q r) (places c q r)
+held_everywhere c q r bounded run_of =
+    All-cons (HoldsAt c q r) fits (places_of_rows c q r) (record { shaped = run_of.shaped; bounded = bounded }) (held_on_rows c q r run_of)

@@ -7,6 +7,7 @@ use Rattle.whole.specs.declared.answers.Stuck.{Stuck}
 use Rattle.weighing.specs.First.{and_then, below, first}
 use Rattle.weighing.proofs.Events.{cases_ok, first-append, first-flat_map, first_is_first, passed_below}
 use Rattle.run_rows.specs.Fitting.{has_shape}
+use Rattle.run_rows.specs.Runs.{Bounded}
 use Rattle.run_rows.specs.declared.rows.Run.{Run}
 use Rattle.run_rows.proofs.Shaped.{has_shape_decides}
 use Rattle.path_server.specs.Limits.{IsSetting}
@@ -65,13 +66,13 @@ unfolding places_of_rows
 run_passed c q r given none =
     let h : ℕ = opening_row c q.setting in
     let n : ℕ = q.setting.flows in
-    let count = given.shaped.row_count in
+    let count = given.shaped.shaped.row_count in
     let row : (i : ℕ) → i < length r.rows → first (found c q r) (places_of_row c q r i) ≡ Ok tt =
     λ i inside.
     passed_below (λ k. first (found c q r) (places_of_row c q r k)) i (length r.rows)
     (sym (first-flat_map (found c q r) (places_of_row c q r) (below (length r.rows))) ∙ none) inside in
     record {
-      shaped = given.shaped;
+      shaped = given.shaped.shaped;
       admitted = rows_admit q.setting.path r given.setting_in.path (λ i inside.
           rules_passed c q r (rules_of_row r i) (flows_part c q r i (row i inside)).0);
       opened = λ f from to.
@@ -120,7 +121,7 @@ rows_stop : (c : Controller) (q : Question) (r : Run) (stop : Replayed) → IsGi
 unfolding found
 rows_stop c q r stop given stops =
     let one = first_is_first (found c q r) (places_of_rows c q r) stop stops in
-    let all : All (IsPlace c q) (one.before ++ one.stop ∷ one.after) = subst (All (IsPlace c q)) one.parts (places_are c q r given.shaped) in
+    let all : All (IsPlace c q) (one.before ++ one.stop ∷ one.after) = subst (All (IsPlace c q)) one.parts (places_are c q r given.shaped.shaped) in
     let front = front_of (IsPlace c q) one.before (one.stop ∷ one.after) all in
     let here = all_amid (IsPlace c q) one.before one.stop one.after all in
     record {
@@ -268,14 +269,14 @@ wide_by c q r stuck (Err stop) v finds says is =
     ]
 
 -- a run of the controller is passed at every place, unless a weighing is stuck
-never_stops : (c : Controller) (q : Question) (r : Run) (t : Result (Unit {0}) Replayed) → Finds c q r t → RunOf c q r → NothingPasses c q r
+never_stops : (c : Controller) (q : Question) (r : Run) (t : Result (Unit {0}) Replayed) → Finds c q r t → Bounded r → RunOf c q r → NothingPasses c q r
     → t ≡ Ok tt
-never_stops c q r (Ok _) finds run_of nothing = refl
-never_stops c q r (Err stop) finds run_of nothing =
+never_stops c q r (Ok _) finds bounded run_of nothing = refl
+never_stops c q r (Err stop) finds bounded run_of nothing =
     let Quiet : Place → Type 0 = λ place. (stuck : Stuck) → IsStuckAt c q r place stuck → ⊥ in
     elim finds.why [
       | inl broken ↦ absurd (broken.1 (all_amid (HoldsAt c q r) finds.before finds.place finds.after
-          (subst (All (HoldsAt c q r)) finds.parts (held_everywhere c q r run_of))))
+          (subst (All (HoldsAt c q r)) finds.parts (held_everywhere c q r bounded run_of))))
       | inr stuck ↦ absurd (all_amid Quiet finds.before finds.place finds.after (subst (All Quiet) finds.parts nothing.in_run) stuck.0 stuck.2)
     ]
 
@@ -315,18 +316,18 @@ unfolding replaying
 wide_law c q r stuck is set says =
     wide_by c q r stuck (first (found c q r) (places c q r)) (violation q r) (finds c q r is set) refl says
 
-rows_passed : (c : Controller) (q : Question) (r : Run) → IsController c → IsSetting q.setting → RunOf c q r → NothingPasses c q r
+rows_passed : (c : Controller) (q : Question) (r : Run) → IsController c → IsSetting q.setting → Bounded r → RunOf c q r → NothingPasses c q r
     → replaying c q r ≡ of_question (violation q r)
 unfolding replaying
-rows_passed c q r is set run_of nothing =
-    ap (λ t. answer t (violation q r)) (never_stops c q r (first (found c q r) (places c q r)) (finds c q r is set) run_of nothing)
+rows_passed c q r is set bounded run_of nothing =
+    ap (λ t. answer t (violation q r)) (never_stops c q r (first (found c q r) (places c q r)) (finds c q r is set) bounded run_of nothing)
 
-pub violation_found_law : (c : Controller) (q : Question) (r : Run) → IsController c → IsSetting q.setting → RunOf c q r → NothingPasses c q r
+pub violation_found_law : (c : Controller) (q : Question) (r : Run) → IsController c → IsSetting q.setting → Bounded r → RunOf c q r → NothingPasses c q r
     → Violates q r → replaying c q r ≡ Violating
-violation_found_law c q r is set run_of nothing violates =
-    rows_passed c q r is set run_of nothing ∙ violation_found_by q r (violation q r) refl nothing.in_question violates
+violation_found_law c q r is set bounded run_of nothing violates =
+    rows_passed c q r is set bounded run_of nothing ∙ violation_found_by q r (violation q r) refl nothing.in_question violates
 
-pub keeping_found_law : (c : Controller) (q : Question) (r : Run) → IsController c → IsSetting q.setting → RunOf c q r → NothingPasses c q r
+pub keeping_found_law : (c : Controller) (q : Question) (r : Run) → IsController c → IsSetting q.setting → Bounded r → RunOf c q r → NothingPasses c q r
     → (Violates q r → ⊥) → replaying c q r ≡ Keeps
-keeping_found_law c q r is set run_of nothing keeps =
-    rows_passed c q r is set run_of nothing ∙ keeping_found_by q r (violation q r) refl nothing.in_question keeps
+keeping_found_law c q r is set bounded run_of nothing keeps =
+    rows_passed c q r is set bounded run_of nothing ∙ keeping_found_by q r (violation q r) refl nothing.in_question keeps

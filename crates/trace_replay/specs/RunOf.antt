@@ -5,7 +5,7 @@ use Rattle.run_rows.specs.declared.rows.Run.{Run}
 use Rattle.path_server.specs.Places.{HoldsAt as RuleHoldsAt, IsStuckAt as IsStuckInRule}
 use Rattle.path_server.specs.Rules.{Admitted}
 use Rattle.ctrl_types.specs.declared.controllers.Controller.{Controller}
-use Rattle.ctrl_meaning.specs.Limits.{FitsBoth, IsControlled}
+use Rattle.ctrl_meaning.specs.Limits.{FitsBoth, HasShape, IsControlled}
 use Rattle.ctrl_meaning.specs.Meaning.{IsStep, IsStuckInOpening, IsStuckInStep, OpensWithin, Sends, Steps}
 use Rattle.ctrl_meaning.specs.Steps.{sending, sent, stepping}
 use Rattle.question_text.specs.Meaning.{IsFirstPassing}
@@ -14,10 +14,10 @@ use Rattle.trace_replay.specs.Replaying.{Place, fits, obeys, opens, steps, sends
 use Rattle.trace_replay.specs.declared.replaying.RunRule.{RunRule}
 use Rattle.trace_replay.specs.declared.replaying.Replayed.TheVariants.{Broken}
 
--- the run is one of the controller's flows on a path that the question asks about: it has the question's shape, the path
--- admits it, each flow opens within its ranges, and each controlled row is a step of each flow
+-- the run is one of the controller's flows on a path that the question asks about: it has the question's shape, whatever
+-- the size of its numbers, the path admits it, each flow opens within its ranges, and each controlled row is a step of each flow
 pub record RunOf (c : Controller) (q : Question) (r : Run) : Type 0 where
-  pub shaped : FitsBoth c q.setting r
+  pub shaped : HasShape c q.setting r
   pub admitted : Admitted q.setting.path r
   pub opened : (f : ℕ) → 1 ≤ f → f ≤ q.setting.flows → OpensWithin c q.setting r f
   pub stepped : (i f : ℕ) → IsControlled c q.setting i → 1 ≤ f → f ≤ q.setting.flows → (rule : ℕ) × IsStep c q.setting r i f rule

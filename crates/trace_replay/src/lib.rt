@@ -1,25 +1,13 @@
-//! Runs as texts, and whether a run is one of a controller's flows.
-//!
-//! The text of a run with its shape, a trace, is read from its one spelling, or refused by the first rule that it
-//! breaks, and printed. A trace begins with `ccac-trace 1`, `shape FLOWS STATES H T`, `over N` and `credit N`. Then
-//! comes for each row, from 0, a line `row I W` and for each flow, from 1, a line `flow F A S L` with the flow's
-//! states behind it on rows `H` and later; then `end`. Each line ends with LF, one space stands between two items,
-//! and numbers are decimal with no leading zero.
+//! Whether a run is one of a controller's flows.
 //!
 //! A run is replayed against a controller and a question: its shape, then row by row the rules of the path, the
-//! opening of the states, each flow's step and what it sends, and last whether it violates the question.
+//! opening of the states, each flow's step and what it sends, and last whether it violates the question. The text of a
+//! run, a trace, is read and printed by `trace_text`, whose calls are given on.
 #![tactic(auto)]
 
-mod faults;
-mod laws;
-mod lines;
-mod printing;
-mod reading;
 mod replaying;
 #[cfg(test)]
 mod tests;
 
-pub use laws::traces_are_told_apart;
-pub use printing::print_trace;
-pub use reading::read_trace;
 pub use replaying::{Replayed, RunRule, replay};
+pub use trace_text::{print_trace, read_trace, traces_are_told_apart};

@@ -2,6 +2,7 @@
 ghost use Rattle.std.specs.Prelude.{◌≡◌, ◌<◌, ◌≤◌, ◌++◌, ℕ, MatchResult, length, map};
 ghost use Rattle.weighing.specs.First.{first};
 ghost use Rattle.whole.specs.declared.answers.Stuck.{Stuck};
+ghost use Rattle.run_rows.specs.Runs.{Bounded};
 ghost use Rattle.path_server.specs.Places.{places_of_row as rules_of_row};
 ghost use Rattle.ctrl_types.specs.Limits.{IsController};
 ghost use Rattle.ctrl_meaning.specs.Limits.{FitsBoth, IsControlled};
@@ -64,9 +65,9 @@ pub fn replay(controller: &Controller, question: &Question, run: &Run) -> Replay
     ensures wide { (stuck : Stuck) → result ≡ Replayed.Wide stuck → IsFirstWide controller.now question.now run.now stuck }
 
     // A run of the controller's flows is found to be one, unless a weighing passes.
-    ensures violation_found { RunOf controller.now question.now run.now → NothingPasses controller.now question.now run.now
+    ensures violation_found { RunOf controller.now question.now run.now → Bounded run.now → NothingPasses controller.now question.now run.now
         → Violates question.now run.now → result ≡ Replayed.Violating }
-    ensures keeping_found { RunOf controller.now question.now run.now → NothingPasses controller.now question.now run.now
+    ensures keeping_found { RunOf controller.now question.now run.now → Bounded run.now → NothingPasses controller.now question.now run.now
         → (Violates question.now run.now → ⊥) → result ≡ Replayed.Keeps }
 {
     examine(controller, question, run)

@@ -3,7 +3,9 @@ use Rattle.std.proofs.Common.{◌≡◌, ℕ, ℤ, pos, ◌+ℤ◌, ◌*ℤ◌, 
 use Rattle.std.proofs.lemmas.Int.{ints}
 use Rattle.whole.specs.declared.answers.Stuck.{Stuck}
 use Rattle.weighing.specs.Weighed.{Stands, more, related, test_of, weighed, weighed_from}
-use Rattle.weighing.specs.Claim.{Claim, nothing, compare, both_of, either_of, not_of, Holds, Says, both_outcomes, either_outcome, not_outcome, outcome, total}
+use Rattle.condition_tree.specs.Trees.{always, never, leaf, opposite, end_of_all, all_of, end_of_any, any_of, Says}
+use Rattle.condition_tree.proofs.Trees.{both_say, either_says, not_says}
+use Rattle.weighing.specs.Claim.{Claim, Holds, both_outcomes, either_outcome, not_outcome, outcome, total}
 use Rattle.weighing.specs.declared.weighings.Term.{Term}
 use Rattle.weighing.specs.declared.weighings.Rel5.{Rel5}
 use Rattle.weighing.specs.declared.weighings.Rel5.TheVariants.{AtMost, Below, AtLeast, Above, Equal}
@@ -45,16 +47,6 @@ le_says a b = says_from (int_le a b) (a ≤ℤ b) (λ e. grind (arith, ints, e))
 lt_says : (a b : ℤ) → Says (int_lt a b) (a <ℤ b)
 lt_says a b = says_from (int_lt a b) (a <ℤ b) (λ e. grind (arith, ints, e)) (λ e h. grind (arith, ints, e, h))
 
-both_say : (t u : Bool) (P Q : Type 0) → Says t P → Says u Q → Says (t && u) (P × Q)
-both_say true true P Q p q = (p, q)
-both_say true false P Q p q = λ h. q h.1
-both_say false u P Q p q = λ h. p h.0
-
-either_says : (t u : Bool) (P Q : Type 0) → Says t P → Says u Q → Says (t || u) (P ⊎ Q)
-either_says true u P Q p q = inl p
-either_says false true P Q p q = inr q
-either_says false false P Q p q = λ h. elim h [ inl l ↦ p l | inr r ↦ q r ]
-
 says_same : (t : Bool) (P Q : Type 0) → (P → Q) → (Q → P) → Says t P → Says t Q
 says_same true P Q there back p = there p
 says_same false P Q there back p = λ q. p (back q)
@@ -93,10 +85,6 @@ either_answers (Ok t) (Err stuck) b P Q p q e = absurd (let f : either_outcome (
 either_answers (Ok t) (Ok u) b P Q p q e =
     subst (λ v. Says v (P ⊎ Q)) (ok_is _ _ e) (either_says t u P Q (p t refl) (q u refl))
 
-not_says : (t : Bool) (P : Type 0) → Says t P → Says (not t) (P → ⊥)
-not_says true P p = λ never. never p
-not_says false P p = p
-
 not_answers : (r : Result Bool Stuck) (b : Bool) (P : Type 0)
     → ((t : Bool) → r ≡ Ok t → Says t P) → not_outcome r ≡ Ok b → Says b (P → ⊥)
 not_answers (Err stuck) b P p e = absurd (let f : not_outcome (Err stuck) ≡ Ok b = e in cc)
@@ -104,8 +92,11 @@ not_answers (Ok t) b P p e = subst (λ v. Says v (P → ⊥)) (ok_is _ _ e) (not
 
 -- what comes of weighing a claim says whether it holds
 pub outcome_says : (row : ℕ) (c : Claim) (b : Bool) → outcome row c ≡ Ok b → Says b (Holds c)
-outcome_says row nothing b e = subst (λ t. Says t (Unit {0})) (ok_is true b e) tt
-outcome_says row (compare terms rel) b e = related_says row terms rel b (weighed row terms).sum refl e
-outcome_says row (both_of p q) b e = both_answers (outcome row p) (outcome row q) b (Holds p) (Holds q) (outcome_says row p) (outcome_says row q) e
-outcome_says row (either_of p q) b e = either_answers (outcome row p) (outcome row q) b (Holds p) (Holds q) (outcome_says row p) (outcome_says row q) e
-outcome_says row (not_of p) b e = not_answers (outcome row p) b (Holds p) (outcome_says row p) e
+outcome_says row always b e = subst (λ t. Says t (Unit {0})) (ok_is true b e) tt
+outcome_says row never b e = subst (λ t. Says t ⊥) (ok_is false b e) (λ h. h)
+outcome_says row (leaf c) b e = related_says row c.terms c.rel b (weighed row c.terms).sum refl e
+outcome_says row (opposite c) b e = not_answers (outcome row c) b (Holds c) (outcome_says row c) e
+outcome_says row end_of_all b e = subst (λ t. Says t (Unit {0})) (ok_is true b e) tt
+outcome_says row (all_of c d) b e = both_answers (outcome row c) (outcome row d) b (Holds c) (Holds d) (outcome_says row c) (outcome_says row d) e
+outcome_says row end_of_any b e = subst (λ t. Says t ⊥) (ok_is false b e) (λ h. h)
+outcome_says row (any_of c d) b e = either_answers (outcome row c) (outcome row d) b (Holds c) (Holds d) (outcome_says row c) (outcome_says row d) e

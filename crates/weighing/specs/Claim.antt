@@ -1,30 +1,46 @@
--- Claims on the entries of a run: what they mean over all whole numbers, and what comes of weighing them within 128 bits.
-use Rattle.std.specs.Prelude.{ℕ, ℤ, pos, ◌+ℤ◌, ◌*ℤ◌, Bool, true, false, ◌&&◌, ◌||◌, not, ◌⊎◌, Result, Ok, Err, List, [], ◌∷◌}
+-- Claims: comparisons, joined. What they mean over all whole numbers, and what comes of weighing them within 128 bits.
+use Rattle.std.specs.Prelude.{ℕ, ℤ, pos, ◌+ℤ◌, ◌*ℤ◌, Bool, true, false, ◌&&◌, ◌||◌, not, Result, Ok, Err, List, [], ◌∷◌}
 use Rattle.whole.specs.declared.answers.Stuck.{Stuck}
+use Rattle.condition_tree.specs.Trees.{Tree, leaf, all_of, end_of_all, Algebra, Truth, folded}
 use Rattle.weighing.specs.Weighed.{related, weighed, Stands}
 use Rattle.weighing.specs.declared.weighings.Term.{Term}
 use Rattle.weighing.specs.declared.weighings.Rel5.{Rel5}
 
--- comparisons, joined
-pub data Claim : Type 0 where
-  nothing : Claim
-  compare : List Term → Rel5 → Claim
-  both_of : Claim → Claim → Claim
-  either_of : Claim → Claim → Claim
-  not_of : Claim → Claim
+-- a comparison: terms of some kind, and the relation to zero in which their sum has to stand
+pub record Compared (T : Type 0) : Type 0 where
+  pub terms : List T
+  pub rel : Rel5
+
+abbrev pub Claims : Type 0 → Type 0
+Claims T = Tree (Compared T)
+
+abbrev pub compare : {T : Type 0} → List T → Rel5 → Tree (Compared T)
+compare terms rel = leaf (record { terms = terms; rel = rel })
+
+-- claims one after another: one alone is the whole
+abbrev pub joined : {T : Type 0} → Tree (Compared T) → List (Tree (Compared T)) → Tree (Compared T)
+joined c [] = c
+joined c (d ∷ ds) = all_of c (joined d ds)
+
+abbrev pub all_claims : {T : Type 0} → List (Tree (Compared T)) → Tree (Compared T)
+all_claims [] = end_of_all
+all_claims (c ∷ cs) = joined c cs
+
+-- a claim on terms whose values are known
+abbrev pub Claim : Type 0
+Claim = Claims Term
 
 -- the exact sum of a comparison's terms
 abbrev pub total : List Term → ℤ
 total [] = pos 0
 total (t ∷ terms) = (t.0 *ℤ t.1) +ℤ total terms
 
+abbrev pub ComparedHolds : Compared Term → Type 0
+ComparedHolds c = Stands c.rel (total c.terms)
+
 -- what a claim means
 abbrev pub Holds : Claim → Type 0
-Holds nothing = Unit {0}
-Holds (compare terms rel) = Stands rel (total terms)
-Holds (both_of p q) = Holds p × Holds q
-Holds (either_of p q) = Holds p ⊎ Holds q
-Holds (not_of p) = Holds p → ⊥
+Holds c = Truth ComparedHolds c
 
 abbrev pub both_outcomes : Result Bool Stuck → Result Bool Stuck → Result Bool Stuck
 both_outcomes (Err stuck) q = Err stuck
@@ -40,15 +56,17 @@ abbrev pub not_outcome : Result Bool Stuck → Result Bool Stuck
 not_outcome (Err stuck) = Err stuck
 not_outcome (Ok a) = Ok (not a)
 
+abbrev pub outcomes : Algebra (Result Bool Stuck)
+outcomes = record {
+  on_always = Ok true;
+  on_never = Ok false;
+  on_opposite = not_outcome;
+  on_end_of_all = Ok true;
+  on_all = both_outcomes;
+  on_end_of_any = Ok false;
+  on_any = either_outcome;
+}
+
 -- what comes of weighing a claim on a row: all its comparisons are weighed, in order, before its truth is taken
 abbrev pub outcome : ℕ → Claim → Result Bool Stuck
-outcome row nothing = Ok true
-outcome row (compare terms rel) = related rel (weighed row terms).sum
-outcome row (both_of p q) = both_outcomes (outcome row p) (outcome row q)
-outcome row (either_of p q) = either_outcome (outcome row p) (outcome row q)
-outcome row (not_of p) = not_outcome (outcome row p)
-
--- a test's answer says whether the fact holds
-abbrev pub Says : Bool → Type 0 → Type 0
-Says true P = P
-Says false P = P → ⊥
+outcome row c = folded outcomes (λ (d : Compared Term). related d.rel (weighed row d.terms).sum) c

@@ -4,9 +4,9 @@ use Rattle.run_rows.specs.declared.shapes.Shape.{Shape}
 use Rattle.run_rows.specs.declared.rows.Run.{Run}
 use Rattle.ctrl_types.specs.declared.controllers.Controller.{Controller}
 use Rattle.question_text.specs.declared.questions.Question.{Question}
-use Rattle.trace_replay.specs.Refused.{IsRefused}
+use Rattle.trace_text.specs.Script.{IsRefused}
 use Rattle.trace_replay.specs.Replaying.{replaying}
-use Rattle.trace_replay.specs.Spelling.{IsTraceText}
+use Rattle.trace_text.specs.Spelling.{IsTraceText}
 use Rattle.trace_replay.specs.declared.replaying.Replayed.{Replayed}
 use Rattle.ccac_cli.specs.Replays.{RunAnswers, replayed, trace_refused}
 use Rattle.ccac_cli.specs.Reports.{Answer, refused, replay_verdict}

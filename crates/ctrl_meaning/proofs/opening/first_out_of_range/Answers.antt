@@ -16,7 +16,7 @@ returns-in_err-holds c =
     c.index-as_slice-state.result c.state-value.result c.is_in_range.result c.as_slice.ensures
     (omega (arith, c.loop-state-test.true, c.len-state-end.ensures, ap length c.as_slice.ensures))
     c.index-as_slice-state.is (c.state-value.ensures.within c.requires.run_in) c.state-value.ensures.value
-    c.requires.run_in.fits.over_in c.is_in_range.ensures in
+    c.requires.run_in.fits.bounded.over_in c.is_in_range.ensures in
     rw (p.1, p.2) (sym (asked_stops false (state_in_range c.args.controller.now c.args.run.now c.args.row c.args.flow) _ c.loop-state.state
     (length c.args.controller.now.states) c.loop-state.found c.loop-state.invariant (sym asks ∙ c.in_err-holds.was)
     (omega (arith, c.loop-state-test.true, c.len-state-end.ensures))))
@@ -27,7 +27,7 @@ loop-state-preserved c =
     c.index-as_slice-state.result c.state-value.result c.is_in_range.result c.as_slice.ensures
     (omega (arith, c.loop-state-test.true, c.len-state-end.ensures, ap length c.as_slice.ensures))
     c.index-as_slice-state.is (c.state-value.ensures.within c.requires.run_in) c.state-value.ensures.value
-    c.requires.run_in.fits.over_in c.is_in_range.ensures in
+    c.requires.run_in.fits.bounded.over_in c.is_in_range.ensures in
     asked_more false (state_in_range c.args.controller.now c.args.run.now c.args.row c.args.flow) c.loop-state.state
     c.loop-state.found c.in_ok-holds.holds c.loop-state.invariant (sym asks ∙ c.in_ok-holds.was)
     ∙ ap (λ o. let r : Result (Option ℕ) Stuck = Ok o in r) (sym c.noted-found.ensures)

@@ -12,7 +12,7 @@ loop-index-preserved c =
     c.loop-index.index c.loop-index.invariant
     (c.plus_all-weighing.ensures ∙ two_terms c.loop-index.weighing
     c.args.scale.now.unit c.flow-now.result.now.a _ c.args.scale.now.minus c.flow-now.result.now.l _
-    (omega (arith, c.requires.scale_in.unit_to)) (c.flow-now.ensures.within c.requires.run_in).a_in
+    (omega (arith, c.requires.scale_in.unit_to)) (c.flow-now.ensures.within c.requires.run_in).bounded.a_in
     (ap (λ (e : FlowRow). e.a) c.flow-now.ensures.value)
-    (omega (arith, c.requires.scale_in.minus_to)) (c.flow-now.ensures.within c.requires.run_in).l_in
+    (omega (arith, c.requires.scale_in.minus_to)) (c.flow-now.ensures.within c.requires.run_in).bounded.l_in
     (ap (λ (e : FlowRow). e.l) c.flow-now.ensures.value))

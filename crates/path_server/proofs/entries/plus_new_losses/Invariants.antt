@@ -1,7 +1,7 @@
 use Rattle.std.proofs.Common.{◌≡◌, ◌∷◌, [], pos, negsuc}
 use Rattle.weighing.specs.Weighed.{times, weighed_from}
 use Rattle.run_rows.specs.Runs.{lost}
-use Rattle.path_server.specs.Claims.{each_flow}
+use Rattle.claims.specs.Subjects.{each_flow}
 use Rattle.path_server.proofs.entries.plus_new_losses.Given as goal
 
 -- the terms of the flows passed so far are in the sum

@@ -1,7 +1,7 @@
 use Rattle.std.proofs.Common.{◌≡◌, ◌∷◌, []}
 use Rattle.weighing.specs.Weighed.{times, weighed_from}
 use Rattle.run_rows.specs.Runs.{served}
-use Rattle.path_server.specs.Claims.{each_flow}
+use Rattle.claims.specs.Subjects.{each_flow}
 use Rattle.path_server.proofs.entries.plus_service.Given as goal
 
 -- the terms of the flows passed so far are in the sum

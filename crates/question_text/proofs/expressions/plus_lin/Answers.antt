@@ -1,3 +1,5 @@
+use Rattle.run_rows.specs.Runs.{flow_count}
+use Rattle.claims.specs.Subjects.{in_run}
 use Rattle.std.proofs.Common.{◌∙◌, ap, pos, get_or}
 use Rattle.weighing.specs.Weighed.{weighed_from}
 use Rattle.ctrl_meaning.proofs.Sums.{factor_is, piece_more}
@@ -14,9 +16,9 @@ pub loop-term-preserved : goal.loop-term-preserved
 loop-term-preserved c =
     let ts = c.as_slice-term-items.result.now in
     let t : QTerm = get_or ts c.loop-term.term-index none in
-    piece_more (term_terms c.args.run.now c.args.at.now c.args.side c.args.scale) c.loop-term.weighing c.plus_of-weighing.result
-    (weighed_from c.args.start (lin_terms c.args.run.now c.args.at.now c.args.side c.args.scale ts)) ts c.loop-term.term-index none
+    piece_more (term_terms (in_run c.args.run.now) (flow_count c.args.run.now 0) c.args.at.now c.args.side c.args.scale) c.loop-term.weighing c.plus_of-weighing.result
+    (weighed_from c.args.start (lin_terms (in_run c.args.run.now) (flow_count c.args.run.now 0) c.args.at.now c.args.side c.args.scale ts)) ts c.loop-term.term-index none
     c.loop-term-test.true c.loop-term.invariant
     (c.plus_of-weighing.ensures
-    ∙ ap (λ k. weighed_from c.loop-term.weighing (of_terms c.args.run.now c.args.at.now k t.of))
+    ∙ ap (λ k. weighed_from c.loop-term.weighing (of_terms (in_run c.args.run.now) (flow_count c.args.run.now 0) c.args.at.now k t.of))
     (factor_is c.scaled-factor.result _ c.scaled-factor.ensures.size c.scaled-factor.ensures.value))

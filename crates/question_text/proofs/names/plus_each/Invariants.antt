@@ -1,6 +1,6 @@
 use Rattle.std.proofs.Common.{◌≡◌, ◌∷◌, []}
 use Rattle.weighing.specs.Weighed.{times, weighed_from}
-use Rattle.path_server.specs.Claims.{each_flow}
+use Rattle.claims.specs.Subjects.{each_flow}
 use Rattle.question_text.specs.Names.{counted}
 use Rattle.question_text.proofs.names.plus_each.Given as goal
 

@@ -23,13 +23,13 @@ returns-clause-wide c = λ stuck is.
     (sym c.examine.ensures ∙ is)
 
 pub returns-clause-violation_found : goal.returns-clause-violation_found
-returns-clause-violation_found c = λ run_of nothing violates.
+returns-clause-violation_found c = λ run_of bounded nothing violates.
     c.examine.ensures
     ∙ violation_found_law c.args.controller.now c.args.question.now c.args.run.now c.requires.controller_in c.requires.question_in.setting_in
-    run_of nothing violates
+    bounded run_of nothing violates
 
 pub returns-clause-keeping_found : goal.returns-clause-keeping_found
-returns-clause-keeping_found c = λ run_of nothing keeps.
+returns-clause-keeping_found c = λ run_of bounded nothing keeps.
     c.examine.ensures
     ∙ keeping_found_law c.args.controller.now c.args.question.now c.args.run.now c.requires.controller_in c.requires.question_in.setting_in
-    run_of nothing keeps
+    bounded run_of nothing keeps
