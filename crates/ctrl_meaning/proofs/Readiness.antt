@@ -38,7 +38,7 @@ HasNums lin = All (λ t. IsNum t.coef) lin.terms
 abbrev pub HasDens : ℕ → Lin → Type 0
 HasDens d lin = All (λ t. den_of t.coef ∣ d) lin.terms
 
-are_scaled : (d : ℕ) (ts : List LinTerm) → All (λ t. IsNum t.coef) ts → All (λ t. den_of t.coef ∣ d) ts → AreScaled d ts
+pub are_scaled : (d : ℕ) (ts : List LinTerm) → All (λ t. IsNum t.coef) ts → All (λ t. den_of t.coef ∣ d) ts → AreScaled d ts
 are_scaled d [] nums dens = tt
 are_scaled d (t ∷ ts) nums dens =
     let N : LinTerm → Type 0 = λ u. IsNum u.coef in
@@ -85,7 +85,7 @@ two_divide r at d left right one two =
     scale_divides n (scale_with 1 left.terms) d right.terms (is_scale n 1 left.terms (omega arith) one.terms_in).some two.terms_in
     (one_divides r at d left one) two.scaled
 
-at_most : (m d : ℕ) → 0 < d → d ≤ 1000000 → m ∣ d → m ≤ 1000000
+pub at_most : (m d : ℕ) → 0 < d → d ≤ 1000000 → m ∣ d → m ≤ 1000000
 at_most m d some small divides = omega (arith, le_of_dvd some divides)
 
 can_weigh : (r : Run) (at : Reading) (d most : ℕ) (t : Test) → 0 < d → d ≤ 1000000 → most ≤ at.heard

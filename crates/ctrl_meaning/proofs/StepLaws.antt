@@ -3,10 +3,10 @@ use Rattle.claims.specs.Subjects.{in_run}
 use Rattle.std.proofs.Common.{◌≡◌, ℕ, ◌-◌, ◌<◌, ◌≤◌, ◌⊎◌, inl, inr, Bool, true, false, Option, Some, None, Result, Ok, Err, length, refl, sym, ◌∙◌, ap, subst, arith}
 use Rattle.std.proofs.lemmas.Bool.{cases_lt}
 use Rattle.whole.specs.declared.answers.Stuck.{Stuck}
-use Rattle.weighing.specs.Asked.{AllAnswered, IsFirstError, IsFirstWanted, asked}
-use Rattle.weighing.specs.Claim.{Claim, Holds, outcome}
-use Rattle.weighing.proofs.Asking.{all_answered, first_error, first_wanted, none_wanted}
-use Rattle.weighing.proofs.Claims.{outcome_says}
+use Rattle.weighing.specs.Asked.{IsFirstStuck, NonePasses, Tells, asked}
+use Rattle.weighing.specs.Claim.{Holds}
+use Rattle.weighing.proofs.AskedClaims.{tells_law}
+use Rattle.weighing.proofs.Claims.{outcome_answers}
 use Rattle.run_rows.specs.declared.rows.Run.{Run}
 use Rattle.path_server.proofs.RuleLaws.{Means}
 use Rattle.path_server.specs.Limits.{IsSetting}
@@ -16,9 +16,9 @@ use Rattle.ctrl_types.specs.Tests.{always, test_of}
 use Rattle.ctrl_types.specs.declared.controllers.Controller.{Controller}
 use Rattle.ctrl_meaning.specs.Guards.{test_claim}
 use Rattle.ctrl_meaning.specs.Limits.{FitsBoth, IsControlled}
-use Rattle.ctrl_meaning.specs.Meaning.{Fires, GuardHolds, IsFirstDiffering, IsOtherArrival, IsStep, IsStuckInSend, IsStuckInStep, NothingPasses, Sends, StateAgrees, Steps, den_of_all}
+use Rattle.ctrl_meaning.specs.Meaning.{Fires, GuardHolds, IsFirstDiffering, IsOtherArrival, IsStep, IsStuckInSend, IsStuckInStep, IsTrueAt, NothingPasses, NothingPassesInSend, NothingPassesInStep, SendSticks, Sends, StateAgrees, Steps, den_of_all}
 use Rattle.ctrl_meaning.specs.Sends.{send_claim}
-use Rattle.ctrl_meaning.specs.Steps.{after_guards, after_rule, differing, fired, firing, guard_outcome, sending, sent, set_claim, set_of, set_outcome, step, stepping}
+use Rattle.ctrl_meaning.specs.Steps.{after_guards, after_rule, differing, fired, firing, guard_claim, guard_outcome, sending, sent, sent_claim, set_claim, set_of, set_outcome, state_claim, step, stepping}
 use Rattle.ctrl_meaning.specs.declared.readings.Reading.{Reading}
 use Rattle.ctrl_meaning.specs.declared.step.StepHolds.{StepHolds}
 use Rattle.ctrl_meaning.specs.declared.step.StepHolds.TheVariants.{Yes, State, Arrival, StepWide, SendWide}
@@ -26,120 +26,113 @@ use Rattle.ctrl_meaning.proofs.Readiness.{IsStepReady, can_step, has_den, step_r
 use Rattle.ctrl_meaning.proofs.SendLaws.{send_means}
 use Rattle.ctrl_meaning.proofs.TestLaws.{set_means, test_means}
 
--- a claim that is weighed says whether what it means is so
-holds_of : (row : ℕ) (c : Claim) (P : Type 0) → Means (Holds c) P → outcome row c ≡ Ok true → P
-holds_of row c P means is = means.0 (outcome_says row c true is)
-
-fails_of : (row : ℕ) (c : Claim) (P : Type 0) → Means (Holds c) P → outcome row c ≡ Ok false → P → ⊥
-fails_of row c P means is p = outcome_says row c false is (means.1 p)
-
-guard_means : (c : Controller) (r : Run) (at : Reading) (k : ℕ) → 0 < den_of_all c → IsStepReady c r at → k < length c.rules
+pub guard_means : (c : Controller) (r : Run) (at : Reading) (k : ℕ) → 0 < den_of_all c → IsStepReady c r at → k < length c.rules
     → Means (Holds (test_claim (in_run r) at (test_of (rule_of c k).guard))) (GuardHolds c r at k)
 guard_means c r at k some ready inside = test_means r at (den_of_all c) (test_of (rule_of c k).guard) some (ready.guards k inside)
 
-state_means : (c : Controller) (r : Run) (at : Reading) (k j : ℕ) → 0 < den_of_all c → IsStepReady c r at → k < length c.rules
+pub state_means : (c : Controller) (r : Run) (at : Reading) (k j : ℕ) → 0 < den_of_all c → IsStepReady c r at → k < length c.rules
     → j < length c.states → Means (Holds (set_claim (in_run r) at j (set_of c k j))) (StateAgrees c r at k j)
 state_means c r at k j some ready inside among = set_means r at (den_of_all c) j (set_of c k j) some (ready.sets k j inside among)
 
--- the last guard is always true
-last_holds : (c : Controller) (r : Run) (at : Reading) → test_of (rule_of c (length c.rules - 1)).guard ≡ always
-    → guard_outcome c r at (length c.rules - 1) ≡ Ok true
-last_holds c r at otherwise = ap (λ t. outcome at.row (test_claim (in_run r) at t)) otherwise
-
-fires_found : (c : Controller) (r : Run) (at : Reading) (k : ℕ) (found : Result (Option ℕ) Stuck) → IsController c → 0 < den_of_all c
-    → IsStepReady c r at → asked true (guard_outcome c r at) (length c.rules) ≡ found → firing (length c.rules - 1) found ≡ Ok k → Fires c r at k
-fires_found c r at k (Err stuck) is some ready asks fires = absurd (cc)
-fires_found c r at k (Ok None) is some ready asks fires =
-    let from = is.rules_from in
-    let never = none_wanted true (guard_outcome c r at) (length c.rules) asks (length c.rules - 1) (omega arith) in
-    let last = last_holds c r at is.otherwise in
-    absurd (let wrong : (let a : Result Bool Stuck = Ok true in a ≡ Ok false) = sym last ∙ never in cc)
-fires_found c r at k (Ok (Some j)) is some ready asks fires =
-    let same : j ≡ k = cc in
-    subst (Fires c r at) same (first_fires c r at j some ready (first_wanted true (guard_outcome c r at) (length c.rules) j asks))
-  where
-    first_fires : (c : Controller) (r : Run) (at : Reading) (j : ℕ) → 0 < den_of_all c → IsStepReady c r at
-        → IsFirstWanted true (guard_outcome c r at) (length c.rules) j → Fires c r at j
-    first_fires c r at j some ready one =
-        let inside = one.within in
-        record {
-          within = one.within;
-          holds = holds_of at.row (test_claim (in_run r) at (test_of (rule_of c j).guard)) (GuardHolds c r at j)
-              (guard_means c r at j some ready one.within) one.here;
-          least = λ i less.
-              let among : i < length c.rules = omega arith in
-              fails_of at.row (test_claim (in_run r) at (test_of (rule_of c i).guard)) (GuardHolds c r at i)
-              (guard_means c r at i some ready among) (one.before i less);
-        }
-
--- the rule that is found is the least whose guard is true
-pub fires_law : (c : Controller) (r : Run) (at : Reading) (k : ℕ) → IsController c → 0 < den_of_all c → IsStepReady c r at
-    → fired c r at ≡ Ok k → Fires c r at k
-unfolding fired
-fires_law c r at k is some ready found =
-    fires_found c r at k (asked true (guard_outcome c r at) (length c.rules)) is some ready refl found
-
--- where no state differs, each is what the rule gives it
-pub agrees_law : (c : Controller) (r : Run) (at : Reading) (k : ℕ) → 0 < den_of_all c → IsStepReady c r at → Fires c r at k
-    → differing c r at k ≡ Ok None → Steps c r at k
-unfolding differing
-agrees_law c r at k some ready fires none = record {
-  fires = fires;
-  agrees = λ j among.
-      holds_of at.row (set_claim (in_run r) at j (set_of c k j)) (StateAgrees c r at k j) (state_means c r at k j some ready fires.within among)
-      (none_wanted false (set_outcome c r at k) (length c.states) none j among);
-}
-
--- the state that is found is the first that differs
-pub differs_law : (c : Controller) (r : Run) (at : Reading) (k j : ℕ) → 0 < den_of_all c → IsStepReady c r at → Fires c r at k
-    → differing c r at k ≡ Ok (Some j) → IsFirstDiffering c r at j
-unfolding differing
-differs_law c r at k j some ready fires found =
-    let one = first_wanted false (set_outcome c r at k) (length c.states) j found in
-    let inside = one.within in
-    record {
-      rule = k;
-      fires = fires;
-      within = one.within;
-      before = λ i less.
-          let among : i < length c.states = omega arith in
-          holds_of at.row (set_claim (in_run r) at i (set_of c k i)) (StateAgrees c r at k i) (state_means c r at k i some ready fires.within among)
-          (one.before i less);
-      differs = fails_of at.row (set_claim (in_run r) at j (set_of c k j)) (StateAgrees c r at k j)
-          (state_means c r at k j some ready fires.within one.within) one.here;
-    }
-
--- where a state's weighing is stuck
-pub states_stuck_law : (c : Controller) (r : Run) (at : Reading) (k : ℕ) (stuck : Stuck) → differing c r at k ≡ Err stuck
-    → IsFirstError (set_outcome c r at k) (length c.states) stuck
-unfolding differing
-states_stuck_law c r at k stuck found = first_error false (set_outcome c r at k) (length c.states) stuck found
+-- only one rule is the least whose guard is true
+pub one_fires : (c : Controller) (r : Run) (at : Reading) (j k : ℕ) → Fires c r at j → Fires c r at k → j ≡ k
+one_fires c r at j k one two =
+    elim (cases_lt j k) [
+      | inl less ↦ absurd (two.least j less one.holds)
+      | inr most ↦ elim (cases_lt k j) [
+        | inl more ↦ absurd (one.least k more two.holds)
+        | inr least ↦ omega arith
+      ]
+    ]
 
 guards_stuck : (last : ℕ) (found : Result (Option ℕ) Stuck) (stuck : Stuck) → firing last found ≡ Err stuck → found ≡ Err stuck
 guards_stuck last (Err other) stuck is = ap (λ e. let r : Result (Option ℕ) Stuck = Err e in r) (let same : other ≡ stuck = cc in same)
 guards_stuck last (Ok None) stuck is = absurd (cc)
 guards_stuck last (Ok (Some k)) stuck is = absurd (cc)
 
--- where a guard's weighing is stuck
-pub guards_stuck_law : (c : Controller) (r : Run) (at : Reading) (stuck : Stuck) → fired c r at ≡ Err stuck
-    → IsFirstError (guard_outcome c r at) (length c.rules) stuck
-unfolding fired
-guards_stuck_law c r at stuck found =
-    first_error true (guard_outcome c r at) (length c.rules) stuck
-    (guards_stuck (length c.rules - 1) (asked true (guard_outcome c r at) (length c.rules)) stuck found)
+-- what is weighed where everything can be read
+module _ (c : Controller) (r : Run) (at : Reading) (some : 0 < den_of_all c) (ready : IsStepReady c r at) where
+  guards_tell : Tells true at.row (guard_claim c r at) (GuardHolds c r at) (length c.rules) (asked true (guard_outcome c r at) (length c.rules))
+  guards_tell =
+      tells_law true at.row (guard_claim c r at) (length c.rules) (GuardHolds c r at) (λ k inside. guard_means c r at k some ready inside)
 
-pub sends_law : (c : Controller) (r : Run) (at : Reading) → 0 < den_of_all c → IsStepReady c r at → sent c r at ≡ Ok true → Sends c r at
-unfolding sent
-sends_law c r at some ready is =
-    holds_of at.row (send_claim (in_run r) at c.window c.rate) (Sends c r at)
-    (send_means r at (den_of_all c) c.window c.rate some ready.window ready.rate) is
+  pub states_tell : (k : ℕ) → Fires c r at k
+      → Tells false at.row (state_claim c r at k) (StateAgrees c r at k) (length c.states) (differing c r at k)
+  unfolding differing
+  states_tell k fires =
+      tells_law false at.row (state_claim c r at k) (length c.states) (StateAgrees c r at k)
+      (λ j among. state_means c r at k j some ready fires.within among)
 
-pub not_sends_law : (c : Controller) (r : Run) (at : Reading) → 0 < den_of_all c → IsStepReady c r at → sent c r at ≡ Ok false
-    → Sends c r at → ⊥
+  -- the rule that is found is the least whose guard is true
+  pub fires_law : (k : ℕ) → IsController c → fired c r at ≡ Ok k → NonePasses (guard_claim c r at) (length c.rules) × Fires c r at k
+  unfolding fired
+  fires_law k is found = by (asked true (guard_outcome c r at) (length c.rules)) refl found
+    where
+      by : (t : Result (Option ℕ) Stuck) → asked true (guard_outcome c r at) (length c.rules) ≡ t → firing (length c.rules - 1) t ≡ Ok k
+          → NonePasses (guard_claim c r at) (length c.rules) × Fires c r at k
+      by (Err stuck) asks fires = absurd (cc)
+      by (Ok None) asks fires =
+          let from = is.rules_from in
+          let never = (guards_tell.none.0 asks).1 (length c.rules - 1) (omega arith) in
+          absurd (never (subst (IsTrueAt r at (den_of_all c)) (sym is.otherwise) tt))
+      by (Ok (Some j)) asks fires =
+          let same : j ≡ k = cc in
+          let both = (guards_tell.some j).0 asks in
+          (both.0, subst (Fires c r at) same (record { within = both.1.within; holds = both.1.here; least = both.1.before }))
+
+  pub fires_again : (k : ℕ) → NonePasses (guard_claim c r at) (length c.rules) → Fires c r at k → fired c r at ≡ Ok k
+  unfolding fired
+  fires_again k small fires =
+      ap (firing (length c.rules - 1))
+      ((guards_tell.some k).1 (small, record { within = fires.within; before = fires.least; here = fires.holds }))
+
+  guards_stuck_law : (stuck : Stuck) → fired c r at ≡ Err stuck → IsFirstStuck at.row (guard_claim c r at) (length c.rules) stuck
+  unfolding fired
+  guards_stuck_law stuck found =
+      (guards_tell.stuck stuck).0
+      (guards_stuck (length c.rules - 1) (asked true (guard_outcome c r at) (length c.rules)) stuck found)
+
+  guards_stuck_again : (stuck : Stuck) → IsFirstStuck at.row (guard_claim c r at) (length c.rules) stuck → fired c r at ≡ Err stuck
+  unfolding fired
+  guards_stuck_again stuck one = ap (firing (length c.rules - 1)) ((guards_tell.stuck stuck).1 one)
+
+  -- where nothing passes in the guards and in what a rule gives that fires, nothing passes in the step
+  nothing_passes : (k : ℕ) → Fires c r at k → NonePasses (guard_claim c r at) (length c.rules) → NonePasses (state_claim c r at k) (length c.states)
+      → NothingPassesInStep c r at
+  nothing_passes k fires guards states = record {
+    guards = guards;
+    states = λ j other. subst (λ i. NonePasses (state_claim c r at i) (length c.states)) (one_fires c r at k j fires other) states;
+  }
+
+-- what comes of weighing what is sent
+module _ (c : Controller) (r : Run) (at : Reading) (some : 0 < den_of_all c) (ready : IsStepReady c r at) where
+  send_means_it : Means (Holds (sent_claim c r at)) (Sends c r at)
+  send_means_it = send_means r at (den_of_all c) c.window c.rate some ready.window ready.rate
+
+  pub sends_law : sent c r at ≡ Ok true → NothingPassesInSend c r at × Sends c r at
+  unfolding sent
+  sends_law is = let both = (outcome_answers at.row (sent_claim c r at)).holds.0 is in (both.0, send_means_it.0 both.1)
+
+  pub sends_again : NothingPassesInSend c r at → Sends c r at → sent c r at ≡ Ok true
+  unfolding sent
+  sends_again small sends = (outcome_answers at.row (sent_claim c r at)).holds.1 (small, send_means_it.1 sends)
+
+  pub not_sends_law : sent c r at ≡ Ok false → NothingPassesInSend c r at × (Sends c r at → ⊥)
+  unfolding sent
+  not_sends_law is =
+      let both = (outcome_answers at.row (sent_claim c r at)).fails.0 is in (both.0, λ sends. both.1 (send_means_it.1 sends))
+
+  pub not_sends_again : NothingPassesInSend c r at → (Sends c r at → ⊥) → sent c r at ≡ Ok false
+  unfolding sent
+  not_sends_again small not = (outcome_answers at.row (sent_claim c r at)).fails.1 (small, λ holds. not (send_means_it.0 holds))
+
+pub send_sticks_law : (c : Controller) (r : Run) (at : Reading) (stuck : Stuck) → sent c r at ≡ Err stuck → SendSticks c r at stuck
 unfolding sent
-not_sends_law c r at some ready is =
-    fails_of at.row (send_claim (in_run r) at c.window c.rate) (Sends c r at)
-    (send_means r at (den_of_all c) c.window c.rate some ready.window ready.rate) is
+send_sticks_law c r at stuck = ((outcome_answers at.row (sent_claim c r at)).stuck stuck).0
+
+pub send_sticks_again : (c : Controller) (r : Run) (at : Reading) (stuck : Stuck) → SendSticks c r at stuck → sent c r at ≡ Err stuck
+unfolding sent
+send_sticks_again c r at stuck = ((outcome_answers at.row (sent_claim c r at)).stuck stuck).1
 
 -- ---- the parts of an answer
 
@@ -220,16 +213,6 @@ send_wide_parts (Ok k) d e stuck is = by (d k) e refl is
     by (Ok None) (Ok false) q is = absurd (cc)
     by (Ok None) (Ok true) q is = absurd (cc)
 
--- all guards are weighed where a rule is found
-guards_answered : (c : Controller) (r : Run) (at : Reading) (k : ℕ) → fired c r at ≡ Ok k → AllAnswered (guard_outcome c r at) (length c.rules)
-unfolding fired
-guards_answered c r at k is = by (asked true (guard_outcome c r at) (length c.rules)) refl is
-  where
-    by : (t : Result (Option ℕ) Stuck) → asked true (guard_outcome c r at) (length c.rules) ≡ t → firing (length c.rules - 1) t ≡ Ok k
-        → AllAnswered (guard_outcome c r at) (length c.rules)
-    by (Err stuck) q is = absurd (cc)
-    by (Ok found) q is = all_answered true (guard_outcome c r at) (length c.rules) found q
-
 -- ---- what each answer says of a controlled row at which everything can be read
 
 pub record IsReadyRow (c : Controller) (s : Setting) (r : Run) (row flow : ℕ) : Type 0 where
@@ -238,92 +221,146 @@ pub record IsReadyRow (c : Controller) (s : Setting) (r : Run) (row flow : ℕ) 
   pub stepping_in : IsStepReady c r (stepping s row flow)
   pub sending_in : IsStepReady c r (sending s row flow)
 
-steps_of : (c : Controller) (s : Setting) (r : Run) (row flow k : ℕ) → IsReadyRow c s r row flow
-    → fired c r (stepping s row flow) ≡ Ok k → differing c r (stepping s row flow) k ≡ Ok None → Steps c r (stepping s row flow) k
-steps_of c s r row flow k ready fires none =
-    agrees_law c r (stepping s row flow) k ready.some ready.stepping_in
-    (fires_law c r (stepping s row flow) k ready.controller_in ready.some ready.stepping_in fires) none
-
-pub yes_law : (c : Controller) (s : Setting) (r : Run) (row flow k : ℕ) → IsReadyRow c s r row flow → step c s r row flow ≡ Yes k → IsStep c s r row flow k
+-- an answer by what is found of the guards, the states and the arrival
+pub step_is : (c : Controller) (s : Setting) (r : Run) (row flow k : ℕ) (states : Result (Option ℕ) Stuck) (send : Result Bool Stuck)
+    → fired c r (stepping s row flow) ≡ Ok k → differing c r (stepping s row flow) k ≡ states → sent c r (sending s row flow) ≡ send
+    → step c s r row flow ≡ after_rule k states send
 unfolding step
-yes_law c s r row flow k ready is =
-    let parts = yes_parts (fired c r (stepping s row flow)) (differing c r (stepping s row flow)) (sent c r (sending s row flow)) k is in
-    record {
-      steps = steps_of c s r row flow k ready parts.0 parts.1;
-      sends = sends_law c r (sending s row flow) ready.some ready.sending_in parts.2;
-    }
+step_is c s r row flow k states send fires differs sends =
+    ap (λ t. after_guards t (differing c r (stepping s row flow)) (sent c r (sending s row flow))) fires
+    ∙ ap (λ t. after_rule k t (sent c r (sending s row flow))) differs
+    ∙ ap (after_rule k states) sends
 
-pub state_law : (c : Controller) (s : Setting) (r : Run) (row flow j : ℕ) → IsReadyRow c s r row flow → step c s r row flow ≡ State j
-    → IsFirstDiffering c r (stepping s row flow) j
-unfolding step
-state_law c s r row flow j ready is =
-    let parts = state_parts (fired c r (stepping s row flow)) (differing c r (stepping s row flow)) (sent c r (sending s row flow)) j is in
-    differs_law c r (stepping s row flow) parts.rule j ready.some ready.stepping_in
-    (fires_law c r (stepping s row flow) parts.rule ready.controller_in ready.some ready.stepping_in parts.fires) parts.states
+module _ (c : Controller) (s : Setting) (r : Run) (row flow : ℕ) (ready : IsReadyRow c s r row flow) where
+  -- the states are those of a step of rule k, and nothing passes
+  steps_of : (k : ℕ) → fired c r (stepping s row flow) ≡ Ok k → differing c r (stepping s row flow) k ≡ Ok None → NothingPassesInStep c r (stepping s row flow) × Steps c r (stepping s row flow) k
+  steps_of k fires none =
+      let first = fires_law c r (stepping s row flow) ready.some ready.stepping_in k ready.controller_in fires in
+      let states = (states_tell c r (stepping s row flow) ready.some ready.stepping_in k first.1).none.0 none in
+      (nothing_passes c r (stepping s row flow) ready.some ready.stepping_in k first.1 first.0 states.0, record { fires = first.1; agrees = states.1 })
 
-pub arrival_law : (c : Controller) (s : Setting) (r : Run) (row flow : ℕ) → IsReadyRow c s r row flow → step c s r row flow ≡ Arrival
-    → IsOtherArrival c s r row flow
-unfolding step
-arrival_law c s r row flow ready is =
-    let parts = arrival_parts (fired c r (stepping s row flow)) (differing c r (stepping s row flow)) (sent c r (sending s row flow)) is in
-    record {
-      rule = parts.0.rule;
-      steps = steps_of c s r row flow parts.0.rule ready parts.0.fires parts.0.states;
-      differs = not_sends_law c r (sending s row flow) ready.some ready.sending_in parts.1;
-    }
+  found_steps : (k : ℕ) → NothingPassesInStep c r (stepping s row flow) → Steps c r (stepping s row flow) k → (fired c r (stepping s row flow) ≡ Ok k) × (differing c r (stepping s row flow) k ≡ Ok None)
+  found_steps k small steps = (
+    fires_again c r (stepping s row flow) ready.some ready.stepping_in k small.guards steps.fires,
+    (states_tell c r (stepping s row flow) ready.some ready.stepping_in k steps.fires).none.1 (small.states k steps.fires, steps.agrees),
+  )
 
-pub step_wide_law : (c : Controller) (s : Setting) (r : Run) (row flow : ℕ) (stuck : Stuck) → IsReadyRow c s r row flow
-    → step c s r row flow ≡ StepWide stuck → IsStuckInStep c s r row flow stuck
-unfolding step
-step_wide_law c s r row flow stuck ready is =
-    elim (step_wide_parts (fired c r (stepping s row flow)) (differing c r (stepping s row flow)) (sent c r (sending s row flow)) stuck is) [
-      | inl guards ↦ inl (guards_stuck_law c r (stepping s row flow) stuck guards)
-      | inr parts ↦ inr (
-        parts.rule,
-        fires_law c r (stepping s row flow) parts.rule ready.controller_in ready.some ready.stepping_in parts.fires,
-        guards_answered c r (stepping s row flow) parts.rule parts.fires,
-        states_stuck_law c r (stepping s row flow) parts.rule stuck parts.states,
-      )
-    ]
+  pub yes_law : (k : ℕ) → step c s r row flow ≡ Yes k → IsStep c s r row flow k × NothingPasses c s r row flow
+  unfolding step
+  yes_law k is =
+      let parts = yes_parts (fired c r (stepping s row flow)) (differing c r (stepping s row flow)) (sent c r (sending s row flow)) k is in
+      let steps = steps_of k parts.0 parts.1 in
+      let sends = sends_law c r (sending s row flow) ready.some ready.sending_in parts.2 in
+      (record { steps = steps.1; sends = sends.1 }, record { in_step = steps.0; in_send = sends.0 })
 
-pub send_wide_law : (c : Controller) (s : Setting) (r : Run) (row flow : ℕ) (stuck : Stuck) → IsReadyRow c s r row flow
-    → step c s r row flow ≡ SendWide stuck → IsStuckInSend c s r row flow stuck
-unfolding step
-send_wide_law c s r row flow stuck ready is =
-    let parts = send_wide_parts (fired c r (stepping s row flow)) (differing c r (stepping s row flow)) (sent c r (sending s row flow)) stuck is in
-    record {
-      rule = parts.0.rule;
-      steps = steps_of c s r row flow parts.0.rule ready parts.0.fires parts.0.states;
-      passes = parts.1;
-    }
+  -- a step is found to be one, unless a weighing passes
+  pub yes_again : (k : ℕ) → IsStep c s r row flow k → NothingPasses c s r row flow → step c s r row flow ≡ Yes k
+  yes_again k is small =
+      let found = found_steps k small.in_step is.steps in
+      step_is c s r row flow k (Ok None) (Ok true) found.0 found.1 (sends_again c r (sending s row flow) ready.some ready.sending_in small.in_send is.sends)
 
--- only one rule is the least whose guard is true
-pub one_fires : (c : Controller) (r : Run) (at : Reading) (j k : ℕ) → Fires c r at j → Fires c r at k → j ≡ k
-one_fires c r at j k one two =
-    elim (cases_lt j k) [
-      | inl less ↦ absurd (two.least j less one.holds)
-      | inr most ↦ elim (cases_lt k j) [
-        | inl more ↦ absurd (one.least k more two.holds)
-        | inr least ↦ omega arith
+  pub state_law : (j : ℕ) → step c s r row flow ≡ State j → IsFirstDiffering c r (stepping s row flow) j
+  unfolding step
+  state_law j is =
+      let parts = state_parts (fired c r (stepping s row flow)) (differing c r (stepping s row flow)) (sent c r (sending s row flow)) j is in
+      let first = fires_law c r (stepping s row flow) ready.some ready.stepping_in parts.rule ready.controller_in parts.fires in
+      let both = ((states_tell c r (stepping s row flow) ready.some ready.stepping_in parts.rule first.1).some j).0 parts.states in
+      record {
+        rule = parts.rule;
+        fires = first.1;
+        within = both.1.within;
+        before = both.1.before;
+        differs = both.1.here;
+        weighed = nothing_passes c r (stepping s row flow) ready.some ready.stepping_in parts.rule first.1 first.0 both.0;
+      }
+
+  pub state_again : (j : ℕ) → IsFirstDiffering c r (stepping s row flow) j → step c s r row flow ≡ State j
+  state_again j one =
+      step_is c s r row flow one.rule (Ok (Some j)) (sent c r (sending s row flow))
+      (fires_again c r (stepping s row flow) ready.some ready.stepping_in one.rule one.weighed.guards one.fires)
+      (((states_tell c r (stepping s row flow) ready.some ready.stepping_in one.rule one.fires).some j).1
+      (one.weighed.states one.rule one.fires, record { within = one.within; before = one.before; here = one.differs }))
+      refl
+
+  pub arrival_law : step c s r row flow ≡ Arrival → IsOtherArrival c s r row flow
+  unfolding step
+  arrival_law is =
+      let parts = arrival_parts (fired c r (stepping s row flow)) (differing c r (stepping s row flow)) (sent c r (sending s row flow)) is in
+      let steps = steps_of parts.0.rule parts.0.fires parts.0.states in
+      let sends = not_sends_law c r (sending s row flow) ready.some ready.sending_in parts.1 in
+      record {
+        rule = parts.0.rule;
+        steps = steps.1;
+        differs = sends.1;
+        weighed = record { in_step = steps.0; in_send = sends.0 };
+      }
+
+  pub arrival_again : IsOtherArrival c s r row flow → step c s r row flow ≡ Arrival
+  arrival_again one =
+      let found = found_steps one.rule one.weighed.in_step one.steps in
+      step_is c s r row flow one.rule (Ok None) (Ok false) found.0 found.1
+      (not_sends_again c r (sending s row flow) ready.some ready.sending_in one.weighed.in_send one.differs)
+
+  pub step_wide_law : (stuck : Stuck) → step c s r row flow ≡ StepWide stuck → IsStuckInStep c s r row flow stuck
+  unfolding step
+  step_wide_law stuck is =
+      elim (step_wide_parts (fired c r (stepping s row flow)) (differing c r (stepping s row flow)) (sent c r (sending s row flow)) stuck is) [
+        | inl guards ↦ inl (guards_stuck_law c r (stepping s row flow) ready.some ready.stepping_in stuck guards)
+        | inr parts ↦
+            let first = fires_law c r (stepping s row flow) ready.some ready.stepping_in parts.rule ready.controller_in parts.fires in
+            inr (
+              parts.rule,
+              first.1,
+              first.0,
+              ((states_tell c r (stepping s row flow) ready.some ready.stepping_in parts.rule first.1).stuck stuck).0 parts.states,
+            )
       ]
-    ]
 
--- a step is found to be one, unless a weighing passes
-pub complete_law : (c : Controller) (s : Setting) (r : Run) (row flow k : ℕ) → IsReadyRow c s r row flow → IsStep c s r row flow k
-    → NothingPasses c s r row flow → step c s r row flow ≡ Yes k
-complete_law c s r row flow k ready is nothing = by (step c s r row flow) refl
-  where
-    by : (answer : StepHolds) → step c s r row flow ≡ answer → step c s r row flow ≡ Yes k
-    by (Yes j) q =
-        let other = yes_law c s r row flow j ready q in
-        q ∙ ap Yes (one_fires c r (stepping s row flow) j k other.steps.fires is.steps.fires)
-    by (State j) q =
-        let other = state_law c s r row flow j ready q in
-        let same : other.rule ≡ k = one_fires c r (stepping s row flow) other.rule k other.fires is.steps.fires in
-        absurd (other.differs (subst (λ n. StateAgrees c r (stepping s row flow) n j) (sym same) (is.steps.agrees j other.within)))
-    by Arrival q = absurd ((arrival_law c s r row flow ready q).differs is.sends)
-    by (StepWide stuck) q = absurd (nothing.in_step stuck (step_wide_law c s r row flow stuck ready q))
-    by (SendWide stuck) q = absurd (nothing.in_send stuck (send_wide_law c s r row flow stuck ready q))
+  pub step_wide_again : (stuck : Stuck) → IsStuckInStep c s r row flow stuck → step c s r row flow ≡ StepWide stuck
+  unfolding step
+  step_wide_again stuck one =
+      elim one [
+        | inl guards ↦
+            ap (λ t. after_guards t (differing c r (stepping s row flow)) (sent c r (sending s row flow))) (guards_stuck_again c r (stepping s row flow) ready.some ready.stepping_in stuck guards)
+        | inr later ↦
+            step_is c s r row flow later.0 (Err stuck) (sent c r (sending s row flow))
+            (fires_again c r (stepping s row flow) ready.some ready.stepping_in later.0 later.2 later.1)
+            (((states_tell c r (stepping s row flow) ready.some ready.stepping_in later.0 later.1).stuck stuck).1 later.3)
+            refl
+      ]
+
+  pub send_wide_law : (stuck : Stuck) → step c s r row flow ≡ SendWide stuck → IsStuckInSend c s r row flow stuck
+  unfolding step
+  send_wide_law stuck is =
+      let parts = send_wide_parts (fired c r (stepping s row flow)) (differing c r (stepping s row flow)) (sent c r (sending s row flow)) stuck is in
+      let steps = steps_of parts.0.rule parts.0.fires parts.0.states in
+      record {
+        rule = parts.0.rule;
+        steps = steps.1;
+        weighed = steps.0;
+        passes = send_sticks_law c r (sending s row flow) stuck parts.1;
+      }
+
+  pub send_wide_again : (stuck : Stuck) → IsStuckInSend c s r row flow stuck → step c s r row flow ≡ SendWide stuck
+  send_wide_again stuck one =
+      let found = found_steps one.rule one.weighed one.steps in
+      step_is c s r row flow one.rule (Ok None) (Err stuck) found.0 found.1 (send_sticks_again c r (sending s row flow) stuck one.passes)
+
+  -- a step is never found to be none, whatever passes
+  pub found_law : (k : ℕ) → IsStep c s r row flow k
+      → (step c s r row flow ≡ Yes k) ⊎ ((stuck : Stuck) × ((step c s r row flow ≡ StepWide stuck) ⊎ (step c s r row flow ≡ SendWide stuck)))
+  found_law k is = by (step c s r row flow) refl
+    where
+      by : (answer : StepHolds) → step c s r row flow ≡ answer
+          → (answer ≡ Yes k) ⊎ ((stuck : Stuck) × ((answer ≡ StepWide stuck) ⊎ (answer ≡ SendWide stuck)))
+      by (Yes j) q = inl (ap Yes (one_fires c r (stepping s row flow) j k (yes_law j q).0.steps.fires is.steps.fires))
+      by (State j) q =
+          let other = state_law j q in
+          let same : k ≡ other.rule = one_fires c r (stepping s row flow) k other.rule is.steps.fires other.fires in
+          absurd (other.differs (subst (λ n. StateAgrees c r (stepping s row flow) n j) same (is.steps.agrees j other.within)))
+      by Arrival q = absurd ((arrival_law q).differs is.sends)
+      by (StepWide stuck) q = inr (stuck, inl refl)
+      by (SendWide stuck) q = inr (stuck, inr refl)
 
 -- a controlled row of a run that fits can be read
 pub ready_row : (c : Controller) (s : Setting) (r : Run) (row flow : ℕ) → IsController c → IsSetting s → FitsBoth c s r → IsControlled c s row

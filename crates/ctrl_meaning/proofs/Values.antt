@@ -67,7 +67,7 @@ part_scaled k m d some divides =
     let whole : k * (m / d) * d ≡ k * m = omega (arith, ap (λ n. k * n) back) in
     sym (mul-div_cancel (k * (m / d)) some) ∙ ap (λ n. n / d) whole
 
-number_scaled : (k m : ℕ) (n : Num) → 0 < den_of n → den_of n ∣ m → pos k *ℤ number m n ≡ number (k * m) n
+pub number_scaled : (k m : ℕ) (n : Num) → 0 < den_of n → den_of n ∣ m → pos k *ℤ number m n ≡ number (k * m) n
 number_scaled k m n some divides =
     sym (*ℤ_assoc (pos k) n.num (pos (m / den_of n)))
     ∙ ap (λ z. z *ℤ pos (m / den_of n)) (*ℤ_comm (pos k) n.num)

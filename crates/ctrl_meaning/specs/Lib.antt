@@ -6,4 +6,6 @@ pub mod Sends
 pub mod Steps
 pub mod Limits
 pub mod Meaning
+pub mod RunOf
+pub mod Flows
 pub mod Example

@@ -1,8 +1,9 @@
 -- What a controller's words mean, over all whole numbers.
 -- Values stand in units of 1 / (over * den), in which each is whole; den is a common multiple of the controller's denominators.
-use Rattle.std.specs.Prelude.{◌≡◌, ℕ, ◌-◌, ◌/◌, ◌<◌, ℤ, pos, ◌+ℤ◌, ◌-ℤ◌, ◌*ℤ◌, ◌≤ℤ◌, ◌<ℤ◌, unsigned_abs, int_le, ◌⊎◌, if◌then◌else◌, Option, Some, None, List, [], ◌∷◌, length, Err}
+use Rattle.std.specs.Prelude.{◌≡◌, ℕ, ◌-◌, ◌/◌, ◌<◌, ℤ, pos, ◌+ℤ◌, ◌-ℤ◌, ◌*ℤ◌, ◌≤ℤ◌, ◌<ℤ◌, unsigned_abs, int_le, ◌⊎◌, if◌then◌else◌, Option, Some, None, List, [], ◌∷◌, length}
 use Rattle.whole.specs.declared.answers.Stuck.{Stuck}
-use Rattle.weighing.specs.Asked.{AllAnswered, IsFirstError}
+use Rattle.weighing.specs.Asked.{IsFirstStuck, NonePasses}
+use Rattle.weighing.specs.Passing.{IsFirstPassing, NothingPasses as NothingPassesIn}
 use Rattle.weighing.specs.Scaled.{den_of}
 use Rattle.weighing.specs.declared.scales.Num.{Num}
 use Rattle.weighing.specs.declared.weighings.Rel5.{Rel5}
@@ -20,9 +21,9 @@ use Rattle.ctrl_types.specs.declared.expressions.Lin.{Lin}
 use Rattle.ctrl_types.specs.declared.expressions.LinTerm.{LinTerm}
 use Rattle.ctrl_types.specs.declared.expressions.Source.{Source}
 use Rattle.ctrl_types.specs.declared.expressions.Source.TheVariants.{One, State as StateSource, Acked, Lost}
-use Rattle.ctrl_meaning.specs.Opening.{declared_state, opening_row, state_in_range}
+use Rattle.ctrl_meaning.specs.Opening.{declared_state, opening_row, range_claim}
 use Rattle.ctrl_meaning.specs.Readings.{losses_heard, losses_heard_before}
-use Rattle.ctrl_meaning.specs.Steps.{guard_outcome, sending, sent, set_of, set_outcome, stepping}
+use Rattle.ctrl_meaning.specs.Steps.{guard_claim, sending, sent_claim, set_of, state_claim, stepping}
 use Rattle.ctrl_meaning.specs.declared.readings.Reading.{Reading}
 
 -- what a term is a multiple of; a signal is what grew in the step that the sender hears of
@@ -82,13 +83,19 @@ pub record Steps (c : Controller) (r : Run) (at : Reading) (k : ℕ) : Type 0 wh
   pub fires : Fires c r at k
   pub agrees : (j : ℕ) → j < length c.states → StateAgrees c r at k j
 
--- j is the first state that isn't what the rule that fires gives
+-- no weighing of a guard passes, nor one of what the rule that fires gives
+pub record NothingPassesInStep (c : Controller) (r : Run) (at : Reading) : Type 0 where
+  pub guards : NonePasses (guard_claim c r at) (length c.rules)
+  pub states : (k : ℕ) → Fires c r at k → NonePasses (state_claim c r at k) (length c.states)
+
+-- j is the first state that isn't what the rule that fires gives, and no weighing of the step passes
 pub record IsFirstDiffering (c : Controller) (r : Run) (at : Reading) (j : ℕ) : Type 0 where
   pub rule : ℕ
   pub fires : Fires c r at rule
   pub within : j < length c.states
   pub before : (i : ℕ) → i < j → StateAgrees c r at rule i
   pub differs : StateAgrees c r at rule j → ⊥
+  pub weighed : NothingPassesInStep c r at
 
 abbrev pub greater : ℤ → ℤ → ℤ
 greater x y = if int_le x y then y else x
@@ -119,29 +126,39 @@ pub record IsStep (c : Controller) (s : Setting) (r : Run) (row flow rule : ℕ)
   pub steps : Steps c r (stepping s row flow) rule
   pub sends : Sends c r (sending s row flow)
 
--- the states are those of a step, and the arrival isn't
+-- no weighing of what is sent passes
+abbrev pub NothingPassesInSend : Controller → Run → Reading → Type 0
+NothingPassesInSend c r at = NothingPassesIn (sent_claim c r at)
+
+-- no weighing of the step or of the arrival passes
+pub record NothingPasses (c : Controller) (s : Setting) (r : Run) (row flow : ℕ) : Type 0 where
+  pub in_step : NothingPassesInStep c r (stepping s row flow)
+  pub in_send : NothingPassesInSend c r (sending s row flow)
+
+-- the states are those of a step, and the arrival isn't; and nothing passes
 pub record IsOtherArrival (c : Controller) (s : Setting) (r : Run) (row flow : ℕ) : Type 0 where
   pub rule : ℕ
   pub steps : Steps c r (stepping s row flow) rule
   pub differs : Sends c r (sending s row flow) → ⊥
+  pub weighed : NothingPasses c s r row flow
 
--- the first weighing of a guard that passes or, where all guards are weighed and a rule fires, the first of its states
+-- the first product or sum of the guards that passes or, where none does and a rule fires, the first of its states
 abbrev pub IsStuckInStep : Controller → Setting → Run → ℕ → ℕ → Stuck → Type 0
 IsStuckInStep c s r row flow stuck =
-    IsFirstError (guard_outcome c r (stepping s row flow)) (length c.rules) stuck
-    ⊎ ((rule : ℕ) × Fires c r (stepping s row flow) rule × AllAnswered (guard_outcome c r (stepping s row flow)) (length c.rules)
-    × IsFirstError (set_outcome c r (stepping s row flow) rule) (length c.states) stuck)
+    IsFirstStuck row (guard_claim c r (stepping s row flow)) (length c.rules) stuck
+    ⊎ ((rule : ℕ) × Fires c r (stepping s row flow) rule × NonePasses (guard_claim c r (stepping s row flow)) (length c.rules)
+    × IsFirstStuck row (state_claim c r (stepping s row flow) rule) (length c.states) stuck)
 
--- the states are those of a step, and the weighing of the arrival passes
+-- the first product or sum of what is sent that passes
+abbrev pub SendSticks : Controller → Run → Reading → Stuck → Type 0
+SendSticks c r at stuck = IsFirstPassing at.row (sent_claim c r at) stuck
+
+-- the states are those of a step, in which nothing passes, and the weighing of the arrival passes
 pub record IsStuckInSend (c : Controller) (s : Setting) (r : Run) (row flow : ℕ) (stuck : Stuck) : Type 0 where
   pub rule : ℕ
   pub steps : Steps c r (stepping s row flow) rule
-  pub passes : sent c r (sending s row flow) ≡ Err stuck
-
--- no weighing of the step or of the arrival passes
-pub record NothingPasses (c : Controller) (s : Setting) (r : Run) (row flow : ℕ) : Type 0 where
-  pub in_step : (stuck : Stuck) → IsStuckInStep c s r row flow stuck → ⊥
-  pub in_send : (stuck : Stuck) → IsStuckInSend c s r row flow stuck → ⊥
+  pub weighed : NothingPassesInStep c r (stepping s row flow)
+  pub passes : SendSticks c r (sending s row flow) stuck
 
 -- a state's value, in units of 1 / over, lies between its bounds
 pub record IsInRange (s : State) (x over : ℤ) : Type 0 where
@@ -156,12 +173,17 @@ OpensInRange c s r flow j = IsInRange (declared_state c j) (state_of r (opening_
 abbrev pub OpensWithin : Controller → Setting → Run → ℕ → Type 0
 OpensWithin c s r flow = (j : ℕ) → j < length c.states → OpensInRange c s r flow j
 
--- the first weighing of a state's range that passes
-abbrev pub IsStuckInOpening : Controller → Setting → Run → ℕ → Stuck → Type 0
-IsStuckInOpening c s r flow stuck = IsFirstError (state_in_range c r (opening_row c s) flow) (length c.states) stuck
+-- no weighing of a state's range passes
+abbrev pub NothingPassesInOpening : Controller → Setting → Run → ℕ → Type 0
+NothingPassesInOpening c s r flow = NonePasses (range_claim c r (opening_row c s) flow) (length c.states)
 
--- j is the first state of the flow that is out of its range on the opening row
+-- the first product or sum of the states' ranges that passes
+abbrev pub IsStuckInOpening : Controller → Setting → Run → ℕ → Stuck → Type 0
+IsStuckInOpening c s r flow stuck = IsFirstStuck (opening_row c s) (range_claim c r (opening_row c s) flow) (length c.states) stuck
+
+-- j is the first state of the flow that is out of its range on the opening row, and no weighing of a range passes
 pub record IsFirstOut (c : Controller) (s : Setting) (r : Run) (flow j : ℕ) : Type 0 where
   pub within : j < length c.states
   pub before : (i : ℕ) → i < j → OpensInRange c s r flow i
   pub out : OpensInRange c s r flow j → ⊥
+  pub weighed : NothingPassesInOpening c s r flow

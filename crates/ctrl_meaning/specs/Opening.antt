@@ -4,7 +4,7 @@ use Rattle.std.proofs.Common.{get_or}
 use Rattle.whole.specs.declared.answers.Stuck.{Stuck}
 use Rattle.weighing.specs.Asked.{asked}
 use Rattle.claims.specs.Subjects.{constant, in_run, of_state}
-use Rattle.weighing.specs.Claim.{Claims, all_claims, compare, outcome}
+use Rattle.weighing.specs.Claim.{Claim, Claims, all_claims, compare, outcome}
 use Rattle.weighing.specs.declared.weighings.Rel5.TheVariants.{AtLeast, AtMost}
 use Rattle.run_rows.specs.declared.rows.Run.{Run}
 use Rattle.path_server.specs.Shapes.{shape_of}
@@ -31,8 +31,12 @@ range_claims term s x over =
 abbrev pub opening_row : Controller → Setting → ℕ
 opening_row c s = (shape_of s (length c.states) c.delay_max).h
 
+-- that state j of the flow lies within its range on the row
+abbrev pub range_claim : Controller → Run → ℕ → ℕ → ℕ → Claim
+range_claim c r row flow j = all_claims (range_claims (in_run r) (declared_state c j) (of_state row flow j) constant)
+
 abbrev pub state_in_range : Controller → Run → ℕ → ℕ → ℕ → Result Bool Stuck
-state_in_range c r row flow j = outcome row (all_claims (range_claims (in_run r) (declared_state c j) (of_state row flow j) constant))
+state_in_range c r row flow j = outcome row (range_claim c r row flow j)
 
 abbrev pub opening_answer : Result (Option ℕ) Stuck → OpeningHolds
 opening_answer (Err stuck) = Wide stuck

@@ -4,7 +4,7 @@ use Rattle.std.proofs.Common.{get_or}
 use Rattle.whole.specs.declared.answers.Stuck.{Stuck}
 use Rattle.weighing.specs.Asked.{asked}
 use Rattle.claims.specs.Subjects.{Subject, in_run, of_state}
-use Rattle.weighing.specs.Claim.{Claims, compare, outcome}
+use Rattle.weighing.specs.Claim.{Claim, Claims, compare, outcome}
 use Rattle.weighing.specs.declared.scales.Side.TheVariants.{Right}
 use Rattle.weighing.specs.declared.weighings.Rel5.TheVariants.{Equal}
 use Rattle.run_rows.specs.declared.rows.Run.{Run}
@@ -41,11 +41,18 @@ set_claim term at j (Some lin) =
 abbrev pub set_of : Controller → ℕ → ℕ → Option Lin
 set_of c k j = get_or (rule_of c k).sets j None
 
+-- that the guard of rule k is true; that rule k gives state j its value
+abbrev pub guard_claim : Controller → Run → Reading → ℕ → Claim
+guard_claim c r at k = test_claim (in_run r) at (test_of (rule_of c k).guard)
+
+abbrev pub state_claim : Controller → Run → Reading → ℕ → ℕ → Claim
+state_claim c r at k j = set_claim (in_run r) at j (set_of c k j)
+
 abbrev pub guard_outcome : Controller → Run → Reading → ℕ → Result Bool Stuck
-guard_outcome c r at k = outcome at.row (test_claim (in_run r) at (test_of (rule_of c k).guard))
+guard_outcome c r at k = outcome at.row (guard_claim c r at k)
 
 abbrev pub set_outcome : Controller → Run → Reading → ℕ → ℕ → Result Bool Stuck
-set_outcome c r at k j = outcome at.row (set_claim (in_run r) at j (set_of c k j))
+set_outcome c r at k j = outcome at.row (state_claim c r at k j)
 
 -- the last rule fires where no other does
 abbrev pub firing : ℕ → Result (Option ℕ) Stuck → Result ℕ Stuck
@@ -61,8 +68,12 @@ fired c r at = firing (length c.rules - 1) (asked true (guard_outcome c r at) (l
 unfoldable pub differing : Controller → Run → Reading → ℕ → Result (Option ℕ) Stuck
 differing c r at k = asked false (set_outcome c r at k) (length c.states)
 
+-- that the flow has sent what it may
+abbrev pub sent_claim : Controller → Run → Reading → Claim
+sent_claim c r at = send_claim (in_run r) at c.window c.rate
+
 unfoldable pub sent : Controller → Run → Reading → Result Bool Stuck
-sent c r at = outcome at.row (send_claim (in_run r) at c.window c.rate)
+sent c r at = outcome at.row (sent_claim c r at)
 
 abbrev pub after_states : ℕ → Result Bool Stuck → StepHolds
 after_states k (Err stuck) = SendWide stuck

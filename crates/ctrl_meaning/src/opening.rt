@@ -1,4 +1,4 @@
-ghost use Rattle.std.specs.Prelude.{◌≡◌, ◌<◌, ◌≤◌, ℕ, length, false};
+ghost use Rattle.std.specs.Prelude.{◌≡◌, ◌↔◌, ◌⊎◌, ◌<◌, ◌≤◌, ℕ, length, false};
 ghost use Rattle.whole.specs.declared.answers.Stuck.{Stuck};
 ghost use Rattle.weighing.specs.Weighed.{times};
 ghost use Rattle.run_rows.specs.Runs.{IsEntry, IsRun, flow_count, flow_of};
@@ -8,7 +8,7 @@ ghost use Rattle.weighing.specs.Scaled.{IsNum};
 ghost use Rattle.path_server.specs.Limits.{IsSetting};
 ghost use Rattle.ctrl_types.specs.Limits.{IsController};
 ghost use Rattle.ctrl_meaning.specs.Limits.{FitsBoth};
-ghost use Rattle.ctrl_meaning.specs.Meaning.{IsFirstOut, IsStuckInOpening, OpensWithin};
+ghost use Rattle.ctrl_meaning.specs.Meaning.{IsFirstOut, IsStuckInOpening, NothingPassesInOpening, OpensWithin};
 ghost use Rattle.ctrl_meaning.specs.Opening.{declared_state, opening, range_claims, state_in_range};
 
 use crate::asking::noted;
@@ -43,11 +43,13 @@ pub fn opening_holds(
     requires flow_from { 1 ≤ flow }
     requires flow_to { flow ≤ setting.now.flows }
     ensures exact { result ≡ opening controller.now setting.now run.now flow }
-    ensures yes { result ≡ OpeningHolds.Yes → OpensWithin controller.now setting.now run.now flow }
-    ensures state { (state : ℕ) → result ≡ OpeningHolds.State state → IsFirstOut controller.now setting.now run.now flow state }
-    ensures wide { (stuck : Stuck) → result ≡ OpeningHolds.Wide stuck → IsStuckInOpening controller.now setting.now run.now flow stuck }
-    ensures complete { OpensWithin controller.now setting.now run.now flow → ((stuck : Stuck) → IsStuckInOpening controller.now setting.now run.now flow stuck → ⊥)
-        → result ≡ OpeningHolds.Yes }
+    ensures yes { (result ≡ OpeningHolds.Yes) ↔ (NothingPassesInOpening controller.now setting.now run.now flow × OpensWithin controller.now setting.now run.now flow) }
+    ensures state { (state : ℕ) → (result ≡ OpeningHolds.State state) ↔ IsFirstOut controller.now setting.now run.now flow state }
+    ensures wide { (stuck : Stuck) → (result ≡ OpeningHolds.Wide stuck) ↔ IsStuckInOpening controller.now setting.now run.now flow stuck }
+
+    // A flow that opens within its ranges is never found to be out of one.
+    ensures found { OpensWithin controller.now setting.now run.now flow
+        → (result ≡ OpeningHolds.Yes) ⊎ ((stuck : Stuck) × (result ≡ OpeningHolds.Wide stuck)) }
 {
     examine_opening(controller, setting, run, flow)
 }

@@ -1,4 +1,4 @@
-ghost use Rattle.std.specs.Prelude.{◌≡◌, ◌≤◌, ℕ};
+ghost use Rattle.std.specs.Prelude.{◌≡◌, ◌↔◌, ◌⊎◌, ◌≤◌, ℕ};
 ghost use Rattle.whole.specs.declared.answers.Stuck.{Stuck};
 ghost use Rattle.path_server.specs.Limits.{IsSetting};
 ghost use Rattle.ctrl_types.specs.Limits.{IsController};
@@ -46,13 +46,15 @@ pub fn step_holds(
     requires flow_from { 1 ≤ flow }
     requires flow_to { flow ≤ setting.now.flows }
     ensures exact { result ≡ step controller.now setting.now run.now row flow }
-    ensures yes { (rule : ℕ) → result ≡ StepHolds.Yes rule → IsStep controller.now setting.now run.now row flow rule }
-    ensures state { (state : ℕ) → result ≡ StepHolds.State state → IsFirstDiffering controller.now run.now (stepping setting.now row flow) state }
-    ensures arrival { result ≡ StepHolds.Arrival → IsOtherArrival controller.now setting.now run.now row flow }
-    ensures step_wide { (stuck : Stuck) → result ≡ StepHolds.StepWide stuck → IsStuckInStep controller.now setting.now run.now row flow stuck }
-    ensures send_wide { (stuck : Stuck) → result ≡ StepHolds.SendWide stuck → IsStuckInSend controller.now setting.now run.now row flow stuck }
-    ensures complete { (rule : ℕ) → IsStep controller.now setting.now run.now row flow rule → NothingPasses controller.now setting.now run.now row flow
-        → result ≡ StepHolds.Yes rule }
+    ensures yes { (rule : ℕ) → (result ≡ StepHolds.Yes rule) ↔ (IsStep controller.now setting.now run.now row flow rule × NothingPasses controller.now setting.now run.now row flow) }
+    ensures state { (state : ℕ) → (result ≡ StepHolds.State state) ↔ IsFirstDiffering controller.now run.now (stepping setting.now row flow) state }
+    ensures arrival { (result ≡ StepHolds.Arrival) ↔ IsOtherArrival controller.now setting.now run.now row flow }
+    ensures step_wide { (stuck : Stuck) → (result ≡ StepHolds.StepWide stuck) ↔ IsStuckInStep controller.now setting.now run.now row flow stuck }
+    ensures send_wide { (stuck : Stuck) → (result ≡ StepHolds.SendWide stuck) ↔ IsStuckInSend controller.now setting.now run.now row flow stuck }
+
+    // A step is never found to be none.
+    ensures found { (rule : ℕ) → IsStep controller.now setting.now run.now row flow rule
+        → (result ≡ StepHolds.Yes rule) ⊎ ((stuck : Stuck) × ((result ≡ StepHolds.StepWide stuck) ⊎ (result ≡ StepHolds.SendWide stuck))) }
 {
     examine_step(controller, setting, run, row, flow)
 }

@@ -1,18 +1,19 @@
 -- What the first finding of an examination says of the rules.
-use Rattle.std.proofs.Common.{◌≡◌, ◌∙◌, ap, refl, sym, subst, ℕ, zero, suc, List, [], ◌+◌, ◌<◌, ◌≤◌, Bool, true, false, Result, Ok, Err, ◌∷◌, ◌++◌, get_or, length, arith}
+use Rattle.std.proofs.Common.{◌≡◌, ◌∙◌, ap, refl, sym, subst, ℕ, zero, suc, List, [], ◌+◌, ◌<◌, ◌≤◌, Bool, true, false, ◌⊎◌, inl, inr, Result, Ok, Err, ◌∷◌, ◌++◌, get_or, length, arith}
 use Rattle.std.specs.Prelude.{All, flat_map}
 use Rattle.std.proofs.lemmas.List.Elements.{All-append, All-from_get_or, All-get_or, All-head, All-map, All-nil, All-push, All-tail, All-weaker}
 use Rattle.whole.specs.declared.answers.Stuck.{Stuck}
-use Rattle.weighing.specs.First.{below, first}
+use Rattle.weighing.specs.First.{IsFirst, below, first}
 use Rattle.weighing.specs.Claim.{outcome}
-use Rattle.weighing.proofs.Claims.{outcome_says}
-use Rattle.weighing.proofs.Events.{each_passed, first-flat_map, first-map, first_is_first, passed_below}
+use Rattle.weighing.proofs.Claims.{outcome_answers}
+use Rattle.weighing.proofs.Events.{all_passed, each_passed, first-flat_map, first-map, first_is, first_is_first, passed_below}
 use Rattle.run_rows.specs.Runs.{flow_count}
 use Rattle.run_rows.specs.declared.rows.Run.{Run}
 use Rattle.path_server.specs.Claims.{claim_of}
 use Rattle.path_server.specs.Limits.{IsPath}
 use Rattle.path_server.specs.Rules.{Admitted, RuleHolds}
-use Rattle.path_server.specs.Places.{HoldsAt, IsFirstBroken, IsFirstWide, IsStuckAt, NothingPasses, Place, admission, answer, at_place, examined, number, places, places_of_row, places_of_rule, rules, stop_at}
+use Rattle.path_server.specs.Places.{Finds, HoldsAt, IsFirstBroken, IsFirstBrokenOf, IsFirstWide, IsFirstWideOf, IsStuckAt, NothingPasses, NothingPassesAt, Place, admission, answer, at_place, examined, number, places, places_of_row, places_of_rule, rules, stop_at}
+use Rattle.path_server.specs.Servers.{server_of}
 use Rattle.path_server.specs.declared.settings.Path.{Path}
 use Rattle.path_server.specs.declared.admission.Admit.{Admit}
 use Rattle.path_server.specs.declared.admission.Admit.TheVariants.{Yes, Broken, Wide}
@@ -42,25 +43,47 @@ never_yes place (Ok true) is = cc
 never_yes place (Ok false) is = cc
 never_yes place (Err stuck) is = cc
 
--- a place at which the outcome is true keeps its rule, as does one that is passed; one at which it is false breaks it
-pub rule_holds : (p : Path) (r : Run) → IsPath p → (place : Place)
-    → outcome place.row (claim_of p r place.rule place.row place.flow) ≡ Ok true → HoldsAt p r place
-rule_holds p r path place is =
-    (claims_mean_rules p r place.rule place.row place.flow path).0
-    (outcome_says place.row (claim_of p r place.rule place.row place.flow) true is)
+-- ---- what a weighing says of its place
+
+abbrev weighed_at : Path → Run → Place → Result Bool Stuck
+weighed_at p r place = outcome place.row (claim_of p r place.rule place.row place.flow)
+
+-- what comes of weighing a place's comparisons: its rule holds, or is broken, or a weighing passes
+pub record WeighsAt (p : Path) (r : Run) (place : Place) : Type 0 where
+  pub holds : weighed_at p r place ≡ Ok true → NothingPassesAt p r place × HoldsAt p r place
+  pub holding : NothingPassesAt p r place → HoldsAt p r place → weighed_at p r place ≡ Ok true
+  pub fails : weighed_at p r place ≡ Ok false → NothingPassesAt p r place × (HoldsAt p r place → ⊥)
+  pub failing : NothingPassesAt p r place → (HoldsAt p r place → ⊥) → weighed_at p r place ≡ Ok false
+  pub sticks : (stuck : Stuck) → weighed_at p r place ≡ Err stuck → IsStuckAt p r place stuck
+  pub sticking : (stuck : Stuck) → IsStuckAt p r place stuck → weighed_at p r place ≡ Err stuck
+
+pub weighs_at : (p : Path) (r : Run) → IsPath p → (place : Place) → WeighsAt p r place
+weighs_at p r path place =
+    let says = outcome_answers place.row (claim_of p r place.rule place.row place.flow) in
+    let means = claims_mean_rules (server_of p) r place.rule place.row place.flow path in
+    record {
+      holds = λ is. (let both = says.holds.0 is in (both.0, means.0 both.1));
+      holding = λ small holds. says.holds.1 (small, means.1 holds);
+      fails = λ is. (let both = says.fails.0 is in (both.0, λ holds. both.1 (means.1 holds)));
+      failing = λ small fails. says.fails.1 (small, λ holds. fails (means.0 holds));
+      sticks = λ stuck. (says.stuck stuck).0;
+      sticking = λ stuck. (says.stuck stuck).1;
+    }
+
+-- a place that is passed keeps its rule, and nothing passes there
+kept_at : (p : Path) (r : Run) → IsPath p → (place : Place) → examined p r place ≡ Ok tt → NothingPassesAt p r place × HoldsAt p r place
+unfolding examined
+kept_at p r path place is = (weighs_at p r path place).holds (passed_outcome place (weighed_at p r place) is)
 
 holds_at : (p : Path) (r : Run) → IsPath p → (place : Place) → examined p r place ≡ Ok tt → HoldsAt p r place
-unfolding examined
-holds_at p r path place is =
-    rule_holds p r path place (passed_outcome place (outcome place.row (claim_of p r place.rule place.row place.flow)) is)
+holds_at p r path place is = (kept_at p r path place is).1
 
-pub breaks_at : (p : Path) (r : Run) → IsPath p → (rule : PathRule) (i f : ℕ)
-    → outcome i (claim_of p r rule i f) ≡ Ok false → RuleHolds p r rule i f → ⊥
-breaks_at p r path rule i f is holds =
-    outcome_says i (claim_of p r rule i f) false is ((claims_mean_rules p r rule i f path).1 holds)
+passes_at : (p : Path) (r : Run) → IsPath p → (place : Place) → NothingPassesAt p r place → HoldsAt p r place → examined p r place ≡ Ok tt
+unfolding examined
+passes_at p r path place small holds = ap (stop_at place) ((weighs_at p r path place).holding small holds)
 
 -- each rule stands in the list under its number
-listed : (rule : PathRule) → get_or rules (number rule) Start ≡ rule
+pub listed : (rule : PathRule) → get_or rules (number rule) Start ≡ rule
 listed Start = refl
 listed Growth = refl
 listed Service = refl
@@ -72,7 +95,7 @@ listed Buffer = refl
 listed Loss = refl
 listed WasteRate = refl
 
-number_below : (rule : PathRule) → number rule < length rules
+pub number_below : (rule : PathRule) → number rule < length rules
 number_below Start = omega arith
 number_below Growth = omega arith
 number_below Service = omega arith
@@ -106,66 +129,97 @@ unfolding Admitted
 rows_admit p r path none = λ rule i f inside among.
     holds_at p r path (at_place i rule f) (every_place_of_row p r i (none i inside) rule f among)
 
-rows_of_places : (p : Path) (r : Run) → first (examined p r) (places r) ≡ Ok tt → (i : ℕ) → i < length r.rows
-    → first (examined p r) (places_of_row r i) ≡ Ok tt
-unfolding places
-rows_of_places p r none i inside =
-    passed_below (λ k. first (examined p r) (places_of_row r k)) i (length r.rows)
-    (sym (first-flat_map (examined p r) (places_of_row r) (below (length r.rows))) ∙ none) inside
+-- ---- what is found at places
 
--- what was answered, was found
-found_none : (p : Path) (r : Run) (t : Result (Unit {0}) Admit) → first (examined p r) (places r) ≡ t → answer t ≡ Yes → t ≡ Ok tt
+weighed_before : (p : Path) (r : Run) → IsPath p → (ps : List Place) → All (λ place. examined p r place ≡ Ok tt) ps → All (NothingPassesAt p r) ps
+weighed_before p r path ps passed =
+    All-weaker (λ place. examined p r place ≡ Ok tt) (NothingPassesAt p r) (λ place is. (kept_at p r path place is).0) ps passed
+
+held_before : (p : Path) (r : Run) → IsPath p → (ps : List Place) → All (λ place. examined p r place ≡ Ok tt) ps → All (HoldsAt p r) ps
+held_before p r path ps passed = All-weaker (λ place. examined p r place ≡ Ok tt) (HoldsAt p r) (holds_at p r path) ps passed
+
+passed_before : (p : Path) (r : Run) → IsPath p → (ps : List Place) → All (NothingPassesAt p r) ps → All (HoldsAt p r) ps
+    → All (λ place. examined p r place ≡ Ok tt) ps
+passed_before p r path ps small held = λ k d inside. passes_at p r path (get_or ps k d) (small k d inside) (held k d inside)
+
+broken_of : (p : Path) (r : Run) (ps : List Place) (rule i f : ℕ) → IsPath p → IsFirst (examined p r) ps (Broken rule i f)
+    → IsFirstBrokenOf p r ps rule i f
 unfolding examined
-found_none p r (Ok _) is answered = refl
-found_none p r (Err stop) is answered =
-    let one = first_is_first (examined p r) (places r) stop is in
-    absurd (never_yes one.stop (outcome one.stop.row (claim_of p r one.stop.rule one.stop.row one.stop.flow)) (one.answer ∙ ap Err answered))
-
-found_stop : (t : Result (Unit {0}) Admit) (stop : Admit) → answer t ≡ stop → (stop ≡ Yes → ⊥) → t ≡ Err stop
-found_stop (Ok _) stop is not = absurd (not (sym is))
-found_stop (Err other) stop is not = ap Err is
-
-pub admitted_law : (p : Path) (r : Run) → IsPath p → admission p r ≡ Yes → Admitted p r
-unfolding admission
-admitted_law p r path answered =
-    rows_admit p r path (rows_of_places p r (found_none p r (first (examined p r) (places r)) refl answered))
-
-pub broken_law : (p : Path) (r : Run) (rule i f : ℕ) → IsPath p → admission p r ≡ Broken rule i f → IsFirstBroken p r rule i f
-unfolding admission examined
-broken_law p r rule i f path is =
-    let stops : first (examined p r) (places r) ≡ Err (Broken rule i f) =
-    found_stop (first (examined p r) (places r)) (Broken rule i f) is (λ wrong. cc) in
-    let one = first_is_first (examined p r) (places r) (Broken rule i f) stops in
-    let (false_there, named, row, flow) = broken_outcome one.stop (outcome one.stop.row (claim_of p r one.stop.rule one.stop.row one.stop.flow)) rule i f one.answer in
+broken_of p r ps rule i f path one =
+    let (fails, named, row, flow) = broken_outcome one.stop (weighed_at p r one.stop) rule i f one.answer in
+    let same : one.stop ≡ at_place i one.stop.rule f = same_place one.stop i f row flow in
+    let here = subst (λ place. NothingPassesAt p r place × (HoldsAt p r place → ⊥)) same ((weighs_at p r path one.stop).fails fails) in
     record {
       before = one.before;
       broken = one.stop.rule;
       after = one.after;
       numbered = named;
-      parts = one.parts ∙ ap (λ place. one.before ++ place ∷ one.after) (same_place one.stop i f row flow);
-      held = All-weaker (λ place. examined p r place ≡ Ok tt) (HoldsAt p r) (holds_at p r path) one.before one.passed;
-      breaks = breaks_at p r path one.stop.rule i f
-          (subst (λ n. outcome n (claim_of p r one.stop.rule n f) ≡ Ok false) row
-          (subst (λ n. outcome one.stop.row (claim_of p r one.stop.rule one.stop.row n) ≡ Ok false) flow false_there));
+      parts = one.parts ∙ ap (λ place. one.before ++ place ∷ one.after) same;
+      weighed = weighed_before p r path one.before one.passed;
+      held = held_before p r path one.before one.passed;
+      weighed_here = here.0;
+      breaks = here.1;
     }
   where
     same_place : (place : Place) (i f : ℕ) → place.row ≡ i → place.flow ≡ f → place ≡ at_place i place.rule f
     same_place place i f row flow = ap (λ n. at_place n place.rule place.flow) row ∙ ap (at_place i place.rule) flow
 
-pub wide_law : (p : Path) (r : Run) (stuck : Stuck) → IsPath p → admission p r ≡ Wide stuck → IsFirstWide p r stuck
-unfolding admission examined
-wide_law p r stuck path is =
-    let stops : first (examined p r) (places r) ≡ Err (Wide stuck) =
-    found_stop (first (examined p r) (places r)) (Wide stuck) is (λ wrong. cc) in
-    let one = first_is_first (examined p r) (places r) (Wide stuck) stops in
-    record {
-      before = one.before;
-      place = one.stop;
-      after = one.after;
-      parts = one.parts;
-      held = All-weaker (λ place. examined p r place ≡ Ok tt) (HoldsAt p r) (holds_at p r path) one.before one.passed;
-      passes = wide_outcome one.stop (outcome one.stop.row (claim_of p r one.stop.rule one.stop.row one.stop.flow)) stuck one.answer;
-    }
+of_broken : (p : Path) (r : Run) (ps : List Place) (rule i f : ℕ) → IsPath p → IsFirstBrokenOf p r ps rule i f
+    → IsFirst (examined p r) ps (Broken rule i f)
+unfolding examined
+of_broken p r ps rule i f path one = record {
+  before = one.before;
+  stop = at_place i one.broken f;
+  after = one.after;
+  parts = one.parts;
+  passed = passed_before p r path one.before one.weighed one.held;
+  answer = ap (stop_at (at_place i one.broken f)) ((weighs_at p r path (at_place i one.broken f)).failing one.weighed_here one.breaks)
+      ∙ ap (λ n. let t : Result (Unit {0}) Admit = Err (Broken n i f) in t) one.numbered;
+}
+
+wide_of : (p : Path) (r : Run) (ps : List Place) (stuck : Stuck) → IsPath p → IsFirst (examined p r) ps (Wide stuck) → IsFirstWideOf p r ps stuck
+unfolding examined
+wide_of p r ps stuck path one = record {
+  before = one.before;
+  place = one.stop;
+  after = one.after;
+  parts = one.parts;
+  weighed = weighed_before p r path one.before one.passed;
+  held = held_before p r path one.before one.passed;
+  passes = (weighs_at p r path one.stop).sticks stuck (wide_outcome one.stop (weighed_at p r one.stop) stuck one.answer);
+}
+
+of_wide : (p : Path) (r : Run) (ps : List Place) (stuck : Stuck) → IsPath p → IsFirstWideOf p r ps stuck → IsFirst (examined p r) ps (Wide stuck)
+unfolding examined
+of_wide p r ps stuck path one = record {
+  before = one.before;
+  stop = one.place;
+  after = one.after;
+  parts = one.parts;
+  passed = passed_before p r path one.before one.weighed one.held;
+  answer = ap (stop_at one.place) ((weighs_at p r path one.place).sticking stuck one.passes);
+}
+
+none_yes : (p : Path) (r : Run) (ps : List Place) → IsFirst (examined p r) ps Yes → ⊥
+unfolding examined
+none_yes p r ps one = never_yes one.stop (weighed_at p r one.stop) one.answer
+
+pub finds_law : (p : Path) (r : Run) (ps : List Place) → IsPath p → Finds p r ps (first (examined p r) ps)
+finds_law p r ps path = record {
+  none = (
+    λ is. (let passed = each_passed (examined p r) ps is in (weighed_before p r path ps passed, held_before p r path ps passed)),
+    λ both. all_passed (examined p r) ps (passed_before p r path ps both.0 both.1),
+  );
+  broken = λ rule i f. (
+    λ is. broken_of p r ps rule i f path (first_is_first (examined p r) ps (Broken rule i f) is),
+    λ one. first_is (examined p r) ps (Broken rule i f) (of_broken p r ps rule i f path one),
+  );
+  wide = λ stuck. (
+    λ is. wide_of p r ps stuck path (first_is_first (examined p r) ps (Wide stuck) is),
+    λ one. first_is (examined p r) ps (Wide stuck) (of_wide p r ps stuck path one),
+  );
+  never_yes = λ is. none_yes p r ps (first_is_first (examined p r) ps Yes is);
+}
 
 -- what holds of each number below n, of each place of several lists, and of one in the midst of a list
 pub all_below : (P : ℕ → Type 0) (n : ℕ) → ((k : ℕ) → k < n → P k) → All P (below n)
@@ -198,22 +252,67 @@ holds_everywhere p r admitted =
     all_flat_map (HoldsAt p r) (places_of_row r) (below (length r.rows))
     (all_below (λ i. All (HoldsAt p r) (places_of_row r i)) (length r.rows) (λ i inside. holds_on_row p r i admitted inside))
 
--- so nothing is found in it where no weighing is stuck
-pub complete_law : (p : Path) (r : Run) → IsPath p → Admitted p r → NothingPasses p r → admission p r ≡ Yes
-unfolding admission examined
-complete_law p r path admitted passing = by (first (examined p r) (places r)) refl
-  where
-    stopped : (place : Place) (o : Result Bool Stuck) (stop : Admit) → outcome place.row (claim_of p r place.rule place.row place.flow) ≡ o
-        → stop_at place o ≡ Err stop → HoldsAt p r place → ((stuck : Stuck) → IsStuckAt p r place stuck → ⊥) → ⊥
-    stopped place (Ok true) stop is stops holds never = cc
-    stopped place (Ok false) stop is stops holds never = breaks_at p r path place.rule place.row place.flow is holds
-    stopped place (Err stuck) stop is stops holds never = never stuck is
+-- ---- what is answered
 
-    by : (t : Result (Unit {0}) Admit) → first (examined p r) (places r) ≡ t → answer t ≡ Yes
-    by (Ok _) found = refl
-    by (Err stop) found =
-        let one = first_is_first (examined p r) (places r) stop found in
-        absurd (stopped one.stop (outcome one.stop.row (claim_of p r one.stop.rule one.stop.row one.stop.flow)) stop refl one.answer
-        (all_amid (HoldsAt p r) one.before one.stop one.after (subst (All (HoldsAt p r)) one.parts (holds_everywhere p r admitted)))
-        (all_amid (λ place. (stuck : Stuck) → IsStuckAt p r place stuck → ⊥) one.before one.stop one.after
-        (subst (All (λ place. (stuck : Stuck) → IsStuckAt p r place stuck → ⊥)) one.parts passing)))
+found_none : (t : Result (Unit {0}) Admit) → (t ≡ Err Yes → ⊥) → answer t ≡ Yes → t ≡ Ok tt
+found_none (Ok _) never answered = refl
+found_none (Err stop) never answered = absurd (never (ap Err answered))
+
+found_stop : (t : Result (Unit {0}) Admit) (stop : Admit) → answer t ≡ stop → (stop ≡ Yes → ⊥) → t ≡ Err stop
+found_stop (Ok _) stop is not = absurd (not (sym is))
+found_stop (Err other) stop is not = ap Err is
+
+finds_all : (p : Path) (r : Run) → IsPath p → Finds p r (places r) (first (examined p r) (places r))
+finds_all p r path = finds_law p r (places r) path
+
+rows_of_places : (p : Path) (r : Run) → first (examined p r) (places r) ≡ Ok tt → (i : ℕ) → i < length r.rows
+    → first (examined p r) (places_of_row r i) ≡ Ok tt
+unfolding places
+rows_of_places p r none i inside =
+    passed_below (λ k. first (examined p r) (places_of_row r k)) i (length r.rows)
+    (sym (first-flat_map (examined p r) (places_of_row r) (below (length r.rows))) ∙ none) inside
+
+pub admitted_law : (p : Path) (r : Run) → IsPath p → admission p r ≡ Yes → Admitted p r
+unfolding admission
+admitted_law p r path answered =
+    rows_admit p r path (rows_of_places p r (found_none (first (examined p r) (places r)) (finds_all p r path).never_yes answered))
+
+pub weighed_law : (p : Path) (r : Run) → IsPath p → admission p r ≡ Yes → NothingPasses p r
+unfolding admission
+weighed_law p r path answered =
+    let all = finds_all p r path in (all.none.0 (found_none (first (examined p r) (places r)) all.never_yes answered)).0
+
+pub broken_law : (p : Path) (r : Run) (rule i f : ℕ) → IsPath p → admission p r ≡ Broken rule i f → IsFirstBroken p r rule i f
+unfolding admission
+broken_law p r rule i f path is =
+    ((finds_all p r path).broken rule i f).0 (found_stop (first (examined p r) (places r)) (Broken rule i f) is (λ wrong. cc))
+
+pub broken_found_law : (p : Path) (r : Run) (rule i f : ℕ) → IsPath p → IsFirstBroken p r rule i f → admission p r ≡ Broken rule i f
+unfolding admission
+broken_found_law p r rule i f path one = ap answer (((finds_all p r path).broken rule i f).1 one)
+
+pub wide_law : (p : Path) (r : Run) (stuck : Stuck) → IsPath p → admission p r ≡ Wide stuck → IsFirstWide p r stuck
+unfolding admission
+wide_law p r stuck path is =
+    ((finds_all p r path).wide stuck).0 (found_stop (first (examined p r) (places r)) (Wide stuck) is (λ wrong. cc))
+
+pub wide_found_law : (p : Path) (r : Run) (stuck : Stuck) → IsPath p → IsFirstWide p r stuck → admission p r ≡ Wide stuck
+unfolding admission
+wide_found_law p r stuck path one = ap answer (((finds_all p r path).wide stuck).1 one)
+
+-- nothing is found in a run that the path admits where no weighing is stuck
+pub complete_law : (p : Path) (r : Run) → IsPath p → Admitted p r → NothingPasses p r → admission p r ≡ Yes
+unfolding admission
+complete_law p r path admitted small = ap answer ((finds_all p r path).none.1 (small, holds_everywhere p r admitted))
+
+-- and no rule is found to be broken in it in any case
+pub admitted_found_law : (p : Path) (r : Run) → IsPath p → Admitted p r → (admission p r ≡ Yes) ⊎ ((stuck : Stuck) × (admission p r ≡ Wide stuck))
+admitted_found_law p r path admitted = by (admission p r) refl
+  where
+    by : (a : Admit) → admission p r ≡ a → (a ≡ Yes) ⊎ ((stuck : Stuck) × (a ≡ Wide stuck))
+    by Yes is = inl refl
+    by (Broken rule i f) is =
+        let one = broken_law p r rule i f path is in
+        absurd (one.breaks (all_amid (HoldsAt p r) one.before (at_place i one.broken f) one.after
+        (subst (All (HoldsAt p r)) one.parts (holds_everywhere p r admitted))))
+    by (Wide stuck) is = inr (stuck, refl)

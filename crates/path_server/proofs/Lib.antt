@@ -1,6 +1,7 @@
 pub mod AdmissionLaws
 pub mod Flows
 pub mod Measures
+pub mod RowColumns
 pub mod RuleColumns
 pub mod RuleLaws
 pub mod ScaleLaws

@@ -10,11 +10,11 @@ use Rattle.run_rows.specs.Runs.{arrived, flow_count, lost, over_flows, served, w
 use Rattle.run_rows.specs.declared.rows.Run.{Run}
 use Rattle.path_server.specs.Claims.{Factors, accepted, allowance, opposite, room, service}
 use Rattle.path_server.specs.Rules.{all_accepted, all_served, allowed, buffer, buffer_den, unit}
-use Rattle.path_server.specs.declared.settings.Path.{Path}
+use Rattle.path_server.specs.Servers.{Server}
 use Rattle.path_server.proofs.Totals.{total-each_flow, total-each_flow_2}
 
 -- k times the factors are those of the inequalities
-pub record Measures (p : Path) (s : Factors) (k : ℤ) : Type 0 where
+pub record Measures (p : Server) (s : Factors) (k : ℤ) : Type 0 where
   pub unit_is : k *ℤ s.unit ≡ unit p
   pub minus_is : k *ℤ s.minus ≡ neg_ℤ (unit p)
   pub rate_is : k *ℤ s.rate ≡ buffer_den p.buffer
@@ -31,7 +31,7 @@ swapped_factor k c u e = neg_ℤ-*ℤ k c ∙ ap neg_ℤ e
 neg_neg : (a : ℤ) → neg_ℤ (neg_ℤ a) ≡ a
 neg_neg a = omega (arith, ints)
 
-pub opposite_measures : (p : Path) (s : Factors) (k : ℤ) → Measures p s k → Measures p (opposite s) (neg_ℤ k)
+pub opposite_measures : (p : Server) (s : Factors) (k : ℤ) → Measures p s k → Measures p (opposite s) (neg_ℤ k)
 opposite_measures p s k m = record {
   unit_is = swapped_factor k s.minus (neg_ℤ (unit p)) m.minus_is ∙ neg_neg (unit p);
   minus_is = swapped_factor k s.unit (unit p) m.unit_is;
@@ -74,7 +74,7 @@ two_terms k c d u x y e g =
 three_terms : (k a b c : ℤ) → k *ℤ (a +ℤ (b +ℤ (c +ℤ pos 0))) ≡ k *ℤ a +ℤ (k *ℤ b +ℤ k *ℤ c)
 three_terms k a b c = simp *ℤ-+ℤ (omega (arith, ints))
 
-pub allowance_measured : (p : Path) (r : Run) (s : Factors) (k : ℤ) (i d : ℕ) → Measures p s k
+pub allowance_measured : (p : Server) (r : Run) (s : Factors) (k : ℤ) (i d : ℕ) → Measures p s k
     → k *ℤ total (allowance (in_run r) p s i d) ≡ allowed p r i d
 allowance_measured p r s k i d m =
     let span : ℤ = pos i -ℤ pos d in
@@ -85,12 +85,12 @@ allowance_measured p r s k i d m =
     let both = unit_of_both (unit p) r.credit (waste r (i - d)) in
     cc
 
-pub service_measured : (p : Path) (r : Run) (s : Factors) (k : ℤ) (i : ℕ) → Measures p s k
+pub service_measured : (p : Server) (r : Run) (s : Factors) (k : ℤ) (i : ℕ) → Measures p s k
     → k *ℤ total (service (in_run r) (flow_count r 0) s i) ≡ unit p *ℤ all_served r i
 service_measured p r s k i m =
     ap (λ n. k *ℤ n) (total-each_flow s.unit (served r i) (flow_count r 0)) ∙ into_term k s.unit (unit p) (all_served r i) m.unit_is
 
-pub accepted_measured : (p : Path) (r : Run) (s : Factors) (k : ℤ) (i : ℕ) → Measures p s k
+pub accepted_measured : (p : Server) (r : Run) (s : Factors) (k : ℤ) (i : ℕ) → Measures p s k
     → k *ℤ total (accepted (in_run r) (flow_count r 0) s i) ≡ unit p *ℤ all_accepted r i
 accepted_measured p r s k i m =
     let arrivals : ℤ = over_flows (arrived r i) (flow_count r 0) in
@@ -101,7 +101,7 @@ accepted_measured p r s k i m =
     let two = into_term k s.minus (neg_ℤ (unit p)) losses m.minus_is in
     let both = unit_of_both (unit p) arrivals losses in cc)
 
-pub room_measured : (p : Path) (b : Pair) (r : Run) (s : Factors) (k : ℤ) → k *ℤ s.buffer ≡ p.rate.den
+pub room_measured : (p : Server) (b : Pair) (r : Run) (s : Factors) (k : ℤ) → k *ℤ s.buffer ≡ p.rate.den
     → k *ℤ total (room (in_run r) b s) ≡ buffer p b *ℤ r.over
 room_measured p b r s k e =
     let inner : k *ℤ (b.num *ℤ s.buffer) ≡ b.num *ℤ p.rate.den =

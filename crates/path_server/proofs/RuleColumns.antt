@@ -1,6 +1,6 @@
 -- The rules over columns: a rule's claims under any values are its written claims under them, and name entries of the
 -- shape alone. So the path admits the run of some columns exactly where the rules' claims hold of these columns.
-use Rattle.std.proofs.Common.{◌≡◌, ℕ, zero, suc, ◌+◌, ◌-◌, ◌<◌, ◌≤◌, ◌==◌, Bool, true, false, cond, ℤ, pos, negsuc, neg_ℤ, Option, Some, None, List, [], ◌∷◌, ◌++◌, map, length, refl, sym, ◌∙◌, ap, subst, arith}
+use Rattle.std.proofs.Common.{◌≡◌, ℕ, ◌-◌, ◌<◌, ◌≤◌, ◌==◌, Bool, true, false, ℤ, pos, negsuc, Option, Some, None, List, [], ◌∷◌, ◌++◌, map, length, refl, sym, ◌∙◌, ap, subst, arith}
 use Rattle.std.specs.Prelude.{All, nat_lt, if◌then◌else◌}
 use Rattle.std.specs.List.{range_with_len}
 use Rattle.std.proofs.lemmas.Bool.Decides.{nat_tests}
@@ -10,19 +10,19 @@ use Rattle.std.proofs.lemmas.List.FromFn.{length-range_with_len}
 use Rattle.whole.specs.declared.answers.Pair.{Pair}
 use Rattle.condition_tree.specs.Trees.{any_of}
 use Rattle.weighing.specs.declared.weighings.Rel5.TheVariants.{AtMost, AtLeast}
-use Rattle.weighing.specs.Claim.{Claim, Claims, Compared, Holds, all_claims, compare, joined}
-use Rattle.weighing.specs.Weighed.{times}
-use Rattle.run_rows.specs.Columns.{HasEntry, HasFlow, rows_of}
+use Rattle.weighing.specs.Claim.{Claim, Claims, Holds, all_claims, compare, joined}
+use Rattle.run_rows.specs.Columns.{HasFlow, rows_of}
 use Rattle.run_rows.specs.Runs.{flow_count}
 use Rattle.run_rows.specs.declared.rows.Run.{Run}
 use Rattle.run_rows.specs.declared.shapes.Shape.{Shape}
 use Rattle.run_rows.specs.declared.rows.Row.{Row}
-use Rattle.claims.specs.Subjects.{Part, Subject, Symbolic, at, by_values, each_flow, in_run, made, of_arrivals, of_losses, of_service, of_waste, part, with_terms, with_values, worth}
+use Rattle.claims.specs.Subjects.{Part, Subject, by_values, in_run, made, of_arrivals, of_losses, of_service, of_waste, part, with_terms}
 use Rattle.claims.specs.Columns.{EachIn, EachOver, IsOver, column_value, flow_made, row_made, run_of}
 use Rattle.claims.proofs.Made.{both_in, claims_made, each_flow_in, map-each_flow, row_is}
-use Rattle.path_server.specs.Claims.{Factors, acceptance_claims, accepted, allowance, buffer_claims, ceiling_claims, claim_of, common_scale, floor_claims, full_or_none, growth_claims, loss_claims, new_losses, nothing_waits, opposite, queue_fits, queue_was_full, rate_scale, room, rule_claims, service, service_claims, start_claims, waste_claims, waste_rate_claims}
-use Rattle.path_server.specs.Limits.{IsPath}
+use Rattle.path_server.specs.Claims.{Factors, acceptance_claims, accepted, allowance, buffer_claims, ceiling_claims, common_scale, floor_claims, full_or_none, growth_claims, loss_claims, new_losses, nothing_waits, opposite, queue_fits, queue_was_full, rate_scale, room, rule_claims, service, service_claims, start_claims, waste_claims, waste_rate_claims}
+use Rattle.path_server.specs.Limits.{IsPath, IsServer}
 use Rattle.path_server.specs.Rules.{Admitted, RuleHolds}
+use Rattle.path_server.specs.Servers.{Server, server_of}
 use Rattle.path_server.specs.declared.settings.Path.{Path}
 use Rattle.path_server.specs.declared.path_rules.PathRule.{PathRule}
 use Rattle.path_server.specs.declared.path_rules.PathRule.TheVariants.{Start, Growth, Service, Ceiling, Floor, Waste, Acceptance, Buffer, Loss, WasteRate}
@@ -30,7 +30,7 @@ use Rattle.path_server.proofs.RuleLaws.{Means, claims_mean_rules}
 
 -- ---- a rule's claims by any terms are its written claims with these terms
 
-chosen : {X Y : Type 0} (g : X → Y) (b : Bool) (x y : X) (u v : Y) → g x ≡ u → g y ≡ v → g (if b then x else y) ≡ (if b then u else v)
+pub chosen : {X Y : Type 0} (g : X → Y) (b : Bool) (x y : X) (u v : Y) → g x ≡ u → g y ≡ v → g (if b then x else y) ≡ (if b then u else v)
 chosen g true x y u v one two = one
 chosen g false x y u v one two = two
 
@@ -61,25 +61,25 @@ each_service_made : {T : Type 0} (term : ℤ → Subject → T) (i f : ℕ) → 
 unfolding service_claims
 each_service_made term i f = chosen (rewritten term) (f == 0) _ _ _ _ refl refl
 
-ceiling_made : {T : Type 0} (term : ℤ → Subject → T) (n : ℕ) (p : Path) (i f : ℕ) → rewritten term (ceiling_claims part n p i f) ≡ ceiling_claims term n p i f
+ceiling_made : {T : Type 0} (term : ℤ → Subject → T) (n : ℕ) (p : Server) (i f : ℕ) → rewritten term (ceiling_claims part n p i f) ≡ ceiling_claims term n p i f
 unfolding ceiling_claims
 ceiling_made term n p i f =
     chosen (rewritten term) (nat_lt 0 f) _ _ _ _ refl
     (ap (λ ts. compare ts AtLeast ∷ []) (ap (λ ts. allowance term p (rate_scale p) i 0 ++ ts) (service_made term n (opposite (rate_scale p)) i)))
 
-floor_made : {T : Type 0} (term : ℤ → Subject → T) (n : ℕ) (p : Path) (i f : ℕ) → rewritten term (floor_claims part n p i f) ≡ floor_claims term n p i f
+floor_made : {T : Type 0} (term : ℤ → Subject → T) (n : ℕ) (p : Server) (i f : ℕ) → rewritten term (floor_claims part n p i f) ≡ floor_claims term n p i f
 unfolding floor_claims
 floor_made term n p i f =
     chosen (rewritten term) (nat_lt 0 f) _ _ _ _ refl
     (ap (λ ts. compare ts AtLeast ∷ [])
     (two_lists (made term) (service part n (rate_scale p) i) (allowance part p (opposite (rate_scale p)) i p.jitter) _ _ (service_made term n (rate_scale p) i) refl))
 
-nothing_waits_made : {T : Type 0} (term : ℤ → Subject → T) (n : ℕ) (p : Path) (i : ℕ) → with_terms (made term) (nothing_waits part n p i) ≡ nothing_waits term n p i
+nothing_waits_made : {T : Type 0} (term : ℤ → Subject → T) (n : ℕ) (p : Server) (i : ℕ) → with_terms (made term) (nothing_waits part n p i) ≡ nothing_waits term n p i
 unfolding nothing_waits
 nothing_waits_made term n p i =
     ap (λ ts. compare (allowance term p (rate_scale p) i 0 ++ ts) AtLeast) (accepted_made term n (opposite (rate_scale p)) i)
 
-waste_made : {T : Type 0} (term : ℤ → Subject → T) (n : ℕ) (p : Path) (i f : ℕ) → rewritten term (waste_claims part n p i f) ≡ waste_claims term n p i f
+waste_made : {T : Type 0} (term : ℤ → Subject → T) (n : ℕ) (p : Server) (i f : ℕ) → rewritten term (waste_claims part n p i f) ≡ waste_claims term n p i f
 unfolding waste_claims
 waste_made term n p i f =
     chosen (rewritten term) (i == 0) _ _ _ _ refl (chosen (rewritten term) (nat_lt 0 f) _ _ _ _ refl
@@ -89,17 +89,17 @@ acceptance_made : {T : Type 0} (term : ℤ → Subject → T) (i f : ℕ) → re
 unfolding acceptance_claims
 acceptance_made term i f = chosen (rewritten term) (i == 0) _ _ _ _ refl (chosen (rewritten term) (f == 0) _ _ _ _ refl refl)
 
-queue_fits_made : {T : Type 0} (term : ℤ → Subject → T) (n : ℕ) (p : Path) (b : Pair) (i : ℕ) → with_terms (made term) (queue_fits part n p b i) ≡ queue_fits term n p b i
+queue_fits_made : {T : Type 0} (term : ℤ → Subject → T) (n : ℕ) (p : Server) (b : Pair) (i : ℕ) → with_terms (made term) (queue_fits part n p b i) ≡ queue_fits term n p b i
 unfolding queue_fits
 queue_fits_made term n p b i =
     ap (λ ts. compare ((allowance term p (common_scale p b) i 0 ++ room term b (common_scale p b)) ++ ts) AtLeast) (accepted_made term n (opposite (common_scale p b)) i)
 
-buffer_made : {T : Type 0} (term : ℤ → Subject → T) (n : ℕ) (p : Path) (b : Option Pair) (i f : ℕ) → rewritten term (buffer_claims part n p b i f) ≡ buffer_claims term n p b i f
+buffer_made : {T : Type 0} (term : ℤ → Subject → T) (n : ℕ) (p : Server) (b : Option Pair) (i f : ℕ) → rewritten term (buffer_claims part n p b i f) ≡ buffer_claims term n p b i f
 unfolding buffer_claims
 buffer_made term n p None i f = refl
 buffer_made term n p (Some b) i f = chosen (rewritten term) (nat_lt 0 f) _ _ _ _ refl (ap (λ c. c ∷ []) (queue_fits_made term n p b i))
 
-queue_was_full_made : {T : Type 0} (term : ℤ → Subject → T) (n : ℕ) (p : Path) (b : Pair) (i h : ℕ)
+queue_was_full_made : {T : Type 0} (term : ℤ → Subject → T) (n : ℕ) (p : Server) (b : Pair) (i h : ℕ)
     → with_terms (made term) (queue_was_full part n p b i h) ≡ queue_was_full term n p b i h
 unfolding queue_was_full
 queue_was_full_made term n p b i h =
@@ -108,7 +108,7 @@ queue_was_full_made term n p b i h =
     (two_lists (made term) (accepted part n s i ++ allowance part p (opposite s) h 0) (room part b (opposite s)) _ _
     (two_lists (made term) (accepted part n s i) (allowance part p (opposite s) h 0) _ _ (accepted_made term n s i) refl) refl)
 
-full_or_none_made : {T : Type 0} (term : ℤ → Subject → T) (n : ℕ) (p : Path) (b : Option Pair) (i h : ℕ)
+full_or_none_made : {T : Type 0} (term : ℤ → Subject → T) (n : ℕ) (p : Server) (b : Option Pair) (i h : ℕ)
     → with_terms (made term) (full_or_none part n p b i h) ≡ full_or_none term n p b i h
 unfolding full_or_none
 full_or_none_made term n p None i h = ap (λ ts. compare ts AtMost) (new_losses_made term n i h)
@@ -116,17 +116,17 @@ full_or_none_made term n p (Some b) i h =
     ap (λ ts. any_of (compare ts AtMost) (with_terms (made term) (queue_was_full part n p b i h))) (new_losses_made term n i h)
     ∙ ap (any_of (compare (new_losses term n i h) AtMost)) (queue_was_full_made term n p b i h)
 
-loss_made : {T : Type 0} (term : ℤ → Subject → T) (n : ℕ) (p : Path) (b : Option Pair) (i f : ℕ) → rewritten term (loss_claims part n p b i f) ≡ loss_claims term n p b i f
+loss_made : {T : Type 0} (term : ℤ → Subject → T) (n : ℕ) (p : Server) (b : Option Pair) (i f : ℕ) → rewritten term (loss_claims part n p b i f) ≡ loss_claims term n p b i f
 unfolding loss_claims
 loss_made term n p b i f =
     chosen (rewritten term) (i == 0) _ _ _ _ refl (chosen (rewritten term) (nat_lt 0 f) _ _ _ _ refl (ap (λ c. c ∷ []) (full_or_none_made term n p b i (i - 1))))
 
-waste_rate_made : {T : Type 0} (term : ℤ → Subject → T) (p : Path) (i f : ℕ) → rewritten term (waste_rate_claims part p i f) ≡ waste_rate_claims term p i f
+waste_rate_made : {T : Type 0} (term : ℤ → Subject → T) (p : Server) (i f : ℕ) → rewritten term (waste_rate_claims part p i f) ≡ waste_rate_claims term p i f
 unfolding waste_rate_claims
 waste_rate_made term p i f = chosen (rewritten term) (i == 0) _ _ _ _ refl (chosen (rewritten term) (nat_lt 0 f) _ _ _ _ refl refl)
 
 -- a rule's claims by any terms are its written claims with these terms
-pub rule_made : {T : Type 0} (term : ℤ → Subject → T) (n : ℕ) (p : Path) (rule : PathRule) (i f : ℕ)
+pub rule_made : {T : Type 0} (term : ℤ → Subject → T) (n : ℕ) (p : Server) (rule : PathRule) (i f : ℕ)
     → rewritten term (rule_claims part n p rule i f) ≡ rule_claims term n p rule i f
 rule_made term n p Start i f = start_made term i f
 rule_made term n p Growth i f = growth_made term i f
@@ -141,7 +141,7 @@ rule_made term n p WasteRate i f = waste_rate_made term p i f
 
 -- ---- a rule's claims at a row and a flow of the shape name its entries alone
 
-chosen_over : {X : Type 0} (P : X → Type 0) (b : Bool) (x y : X) → (b ≡ true → P x) → (b ≡ false → P y) → P (if b then x else y)
+pub chosen_over : {X : Type 0} (P : X → Type 0) (b : Bool) (x y : X) → (b ≡ true → P x) → (b ≡ false → P y) → P (if b then x else y)
 chosen_over P true x y one two = one refl
 chosen_over P false x y one two = two refl
 
@@ -177,7 +177,7 @@ service_over s i f row to =
     chosen_over (EachOver s) (f == 0) _ _ (λ _. tt)
     (λ is. let has = flow_has s i f row (some_flow f is) to in ((has, (has, (has, tt))), tt))
 
-allowance_in : (s : Shape) (p : Path) (k : Factors) (i d : ℕ) → i < rows_of s → EachIn s (allowance part p k i d)
+allowance_in : (s : Shape) (p : Server) (k : Factors) (i d : ℕ) → i < rows_of s → EachIn s (allowance part p k i d)
 allowance_in s p k i d row = (tt, (tt, (row_has s i d row, tt)))
 
 all_service_in : (s : Shape) (k : Factors) (i : ℕ) → i < rows_of s → EachIn s (service part s.flows k i)
@@ -194,7 +194,7 @@ new_losses_in s i h row before =
     each_flow_in s (λ f. part (pos 1) (of_losses i f) ∷ part (negsuc 0) (of_losses h f) ∷ []) s.flows
     (λ f from to. (flow_has s i f row from to, (flow_has s h f before from to, tt)))
 
-ceiling_over : (s : Shape) (p : Path) (i f : ℕ) → i < rows_of s → EachOver s (ceiling_claims part s.flows p i f)
+ceiling_over : (s : Shape) (p : Server) (i f : ℕ) → i < rows_of s → EachOver s (ceiling_claims part s.flows p i f)
 unfolding ceiling_claims
 ceiling_over s p i f row =
     chosen_over (EachOver s) (nat_lt 0 f) _ _ (λ _. tt)
@@ -204,7 +204,7 @@ ceiling_over s p i f row =
       tt,
     ))
 
-floor_over : (s : Shape) (p : Path) (i f : ℕ) → i < rows_of s → EachOver s (floor_claims part s.flows p i f)
+floor_over : (s : Shape) (p : Server) (i f : ℕ) → i < rows_of s → EachOver s (floor_claims part s.flows p i f)
 unfolding floor_claims
 floor_over s p i f row =
     chosen_over (EachOver s) (nat_lt 0 f) _ _ (λ _. tt)
@@ -214,13 +214,13 @@ floor_over s p i f row =
       tt,
     ))
 
-nothing_waits_over : (s : Shape) (p : Path) (i : ℕ) → i < rows_of s → IsOver s (nothing_waits part s.flows p i)
+nothing_waits_over : (s : Shape) (p : Server) (i : ℕ) → i < rows_of s → IsOver s (nothing_waits part s.flows p i)
 unfolding nothing_waits
 nothing_waits_over s p i row =
     both_in s (allowance part p (rate_scale p) i 0) (accepted part s.flows (opposite (rate_scale p)) i)
     (allowance_in s p (rate_scale p) i 0 row) (accepted_in s (opposite (rate_scale p)) i row)
 
-waste_over : (s : Shape) (p : Path) (i f : ℕ) → i < rows_of s → EachOver s (waste_claims part s.flows p i f)
+waste_over : (s : Shape) (p : Server) (i f : ℕ) → i < rows_of s → EachOver s (waste_claims part s.flows p i f)
 unfolding waste_claims
 waste_over s p i f row =
     chosen_over (EachOver s) (i == 0) _ _ (λ _. tt) (λ _. chosen_over (EachOver s) (nat_lt 0 f) _ _ (λ _. tt)
@@ -235,43 +235,43 @@ acceptance_over s i f row to =
     let had = flow_has s (i - 1) f (row_has s i 1 row) (some_flow f is) to in
     ((has, (has, (had, (had, tt)))), tt)))
 
-queue_fits_over : (s : Shape) (p : Path) (b : Pair) (i : ℕ) → i < rows_of s → IsOver s (queue_fits part s.flows p b i)
+queue_fits_over : (s : Shape) (p : Server) (b : Pair) (i : ℕ) → i < rows_of s → IsOver s (queue_fits part s.flows p b i)
 unfolding queue_fits
 queue_fits_over s p b i row =
     let k : Factors = common_scale p b in
     both_in s (allowance part p k i 0 ++ room part b k) (accepted part s.flows (opposite k) i)
     (both_in s (allowance part p k i 0) (room part b k) (allowance_in s p k i 0 row) (tt, tt)) (accepted_in s (opposite k) i row)
 
-buffer_over : (s : Shape) (p : Path) (b : Option Pair) (i f : ℕ) → i < rows_of s → EachOver s (buffer_claims part s.flows p b i f)
+buffer_over : (s : Shape) (p : Server) (b : Option Pair) (i f : ℕ) → i < rows_of s → EachOver s (buffer_claims part s.flows p b i f)
 unfolding buffer_claims
 buffer_over s p None i f row = tt
 buffer_over s p (Some b) i f row = chosen_over (EachOver s) (nat_lt 0 f) _ _ (λ _. tt) (λ _. (queue_fits_over s p b i row, tt))
 
-queue_was_full_over : (s : Shape) (p : Path) (b : Pair) (i h : ℕ) → i < rows_of s → h < rows_of s → IsOver s (queue_was_full part s.flows p b i h)
+queue_was_full_over : (s : Shape) (p : Server) (b : Pair) (i h : ℕ) → i < rows_of s → h < rows_of s → IsOver s (queue_was_full part s.flows p b i h)
 unfolding queue_was_full
 queue_was_full_over s p b i h row before =
     let k : Factors = common_scale p b in
     both_in s (accepted part s.flows k i ++ allowance part p (opposite k) h 0) (room part b (opposite k))
     (both_in s (accepted part s.flows k i) (allowance part p (opposite k) h 0) (accepted_in s k i row) (allowance_in s p (opposite k) h 0 before)) (tt, tt)
 
-full_or_none_over : (s : Shape) (p : Path) (b : Option Pair) (i h : ℕ) → i < rows_of s → h < rows_of s → IsOver s (full_or_none part s.flows p b i h)
+full_or_none_over : (s : Shape) (p : Server) (b : Option Pair) (i h : ℕ) → i < rows_of s → h < rows_of s → IsOver s (full_or_none part s.flows p b i h)
 unfolding full_or_none
 full_or_none_over s p None i h row before = new_losses_in s i h row before
 full_or_none_over s p (Some b) i h row before = (new_losses_in s i h row before, queue_was_full_over s p b i h row before)
 
-loss_over : (s : Shape) (p : Path) (b : Option Pair) (i f : ℕ) → i < rows_of s → EachOver s (loss_claims part s.flows p b i f)
+loss_over : (s : Shape) (p : Server) (b : Option Pair) (i f : ℕ) → i < rows_of s → EachOver s (loss_claims part s.flows p b i f)
 unfolding loss_claims
 loss_over s p b i f row =
     chosen_over (EachOver s) (i == 0) _ _ (λ _. tt) (λ _. chosen_over (EachOver s) (nat_lt 0 f) _ _ (λ _. tt)
     (λ _. (full_or_none_over s p b i (i - 1) row (row_has s i 1 row), tt)))
 
-waste_rate_over : (s : Shape) (p : Path) (i f : ℕ) → i < rows_of s → EachOver s (waste_rate_claims part p i f)
+waste_rate_over : (s : Shape) (p : Server) (i f : ℕ) → i < rows_of s → EachOver s (waste_rate_claims part p i f)
 unfolding waste_rate_claims
 waste_rate_over s p i f row =
     chosen_over (EachOver s) (i == 0) _ _ (λ _. tt) (λ _. chosen_over (EachOver s) (nat_lt 0 f) _ _ (λ _. tt)
     (λ _. ((tt, (row, (row_has s i 1 row, tt))), tt)))
 
-pub rule_over : (s : Shape) (p : Path) (rule : PathRule) (i f : ℕ) → i < rows_of s → f ≤ s.flows → EachOver s (rule_claims part s.flows p rule i f)
+pub rule_over : (s : Shape) (p : Server) (rule : PathRule) (i f : ℕ) → i < rows_of s → f ≤ s.flows → EachOver s (rule_claims part s.flows p rule i f)
 rule_over s p Start i f row to = start_over s i f to
 rule_over s p Growth i f row to = growth_over s i f row to
 rule_over s p Service i f row to = service_over s i f row to
@@ -298,27 +298,27 @@ each_holds (c ∷ cs) = by c cs
 -- ---- the path admits the run of some columns exactly where each rule's claims hold of these columns
 
 -- each claim of a rule at the columns' values
-abbrev pub Meets : Shape → (ℕ → ℤ) → ℤ → Path → PathRule → ℕ → ℕ → Type 0
+abbrev pub Meets : Shape → (ℕ → ℤ) → ℤ → Server → PathRule → ℕ → ℕ → Type 0
 Meets s value den p rule i f = All Holds (rule_claims (by_values (column_value s value den)) s.flows p rule i f)
 
-rows_are : (s : Shape) (value : ℕ → ℤ) (den : ℤ) → length (run_of s value den).rows ≡ rows_of s
+pub rows_are : (s : Shape) (value : ℕ → ℤ) (den : ℤ) → length (run_of s value den).rows ≡ rows_of s
 unfolding run_of
 rows_are s value den = length-map (range_with_len 0 (rows_of s)) (row_made s value) ∙ length-range_with_len 0 (rows_of s)
 
-flows_are : (s : Shape) (value : ℕ → ℤ) (den : ℤ) → flow_count (run_of s value den) 0 ≡ s.flows
+pub flows_are : (s : Shape) (value : ℕ → ℤ) (den : ℤ) → flow_count (run_of s value den) 0 ≡ s.flows
 flows_are s value den =
     ap (λ (r : Row). length r.flows) (row_is s value den 0 (omega arith))
     ∙ length-map (range_with_len 1 s.flows) (flow_made s value 0) ∙ length-range_with_len 1 s.flows
 
 -- the claims that are weighed in the run of the columns are those of the columns
-pub claims_are : (s : Shape) (value : ℕ → ℤ) (den : ℤ) (p : Path) (rule : PathRule) (i f : ℕ) → i < rows_of s → f ≤ s.flows
+pub claims_are : (s : Shape) (value : ℕ → ℤ) (den : ℤ) (p : Server) (rule : PathRule) (i f : ℕ) → i < rows_of s → f ≤ s.flows
     → rule_claims (in_run (run_of s value den)) s.flows p rule i f ≡ rule_claims (by_values (column_value s value den)) s.flows p rule i f
 claims_are s value den p rule i f row to =
     sym (rule_made (in_run (run_of s value den)) s.flows p rule i f)
     ∙ claims_made s value den (rule_claims part s.flows p rule i f) (rule_over s p rule i f row to)
     ∙ rule_made (by_values (column_value s value den)) s.flows p rule i f
 
-rule_meets : (s : Shape) (value : ℕ → ℤ) (den : ℤ) (p : Path) (rule : PathRule) (i f : ℕ) → IsPath p → i < rows_of s → f ≤ s.flows
+pub rule_meets : (s : Shape) (value : ℕ → ℤ) (den : ℤ) (p : Server) (rule : PathRule) (i f : ℕ) → IsServer p → i < rows_of s → f ≤ s.flows
     → Means (Meets s value den p rule i f) (RuleHolds p (run_of s value den) rule i f)
 rule_meets s value den p rule i f path row to =
     let r : Run = run_of s value den in
@@ -329,13 +329,13 @@ rule_meets s value den p rule i f path row to =
     (λ h. laws.0 (each.1 (subst (All Holds) (sym same) h)), λ h. subst (All Holds) same (each.0 (laws.1 h)))
 
 pub formulas_mean : (s : Shape) (value : ℕ → ℤ) (den : ℤ) (p : Path) → IsPath p
-    → Means ((rule : PathRule) (i f : ℕ) → i < rows_of s → f ≤ s.flows → Meets s value den p rule i f) (Admitted p (run_of s value den))
+    → Means ((rule : PathRule) (i f : ℕ) → i < rows_of s → f ≤ s.flows → Meets s value den (server_of p) rule i f) (Admitted p (run_of s value den))
 unfolding Admitted
 formulas_mean s value den p path =
     let rows = rows_are s value den in
     let flows = flows_are s value den in (
       λ h. λ rule i f row to.
-          (rule_meets s value den p rule i f path (omega (arith, rows)) (omega (arith, flows))).0 (h rule i f (omega (arith, rows)) (omega (arith, flows))),
+          (rule_meets s value den (server_of p) rule i f path (omega (arith, rows)) (omega (arith, flows))).0 (h rule i f (omega (arith, rows)) (omega (arith, flows))),
       λ h. λ rule i f row to.
-          (rule_meets s value den p rule i f path row to).1 (h rule i f (omega (arith, rows)) (omega (arith, flows))),
+          (rule_meets s value den (server_of p) rule i f path row to).1 (h rule i f (omega (arith, rows)) (omega (arith, flows))),
     )

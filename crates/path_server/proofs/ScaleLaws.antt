@@ -9,12 +9,12 @@ use Rattle.whole.specs.declared.answers.Pair.{Pair}
 use Rattle.whole.proofs.Divisors.{IsLcm-lcm_of}
 use Rattle.whole.proofs.Integers.{*ℤ-neg_ℤ, *ℤ-one}
 use Rattle.path_server.specs.Claims.{common_scale, rate_scale}
-use Rattle.path_server.specs.Limits.{IsNumber, IsPath}
+use Rattle.path_server.specs.Limits.{IsNumber, IsServer}
 use Rattle.path_server.specs.Rules.{buffer_den, unit}
-use Rattle.path_server.specs.declared.settings.Path.{Path}
+use Rattle.path_server.specs.Servers.{Server}
 use Rattle.path_server.proofs.Measures.{Measures}
 
-pub rate_measures : (p : Path) → Measures p (rate_scale p) (buffer_den p.buffer)
+pub rate_measures : (p : Server) → Measures p (rate_scale p) (buffer_den p.buffer)
 rate_measures p = record {
   unit_is = *ℤ_comm (buffer_den p.buffer) p.rate.den;
   minus_is = *ℤ-neg_ℤ (buffer_den p.buffer) p.rate.den ∙ ap neg_ℤ (*ℤ_comm (buffer_den p.buffer) p.rate.den);
@@ -59,16 +59,16 @@ some_size : (z : ℤ) → pos 1 ≤ℤ z → 0 < unsigned_abs z
 some_size z h = omega (arith, ints)
 
 -- by what the common scale is multiplied
-abbrev pub common_cofactor : Path → Pair → ℤ
+abbrev pub common_cofactor : Server → Pair → ℤ
 common_cofactor p b =
     let m = lcm_of (unsigned_abs p.rate.den) (unsigned_abs b.den) in pos (unsigned_abs p.rate.den * unsigned_abs b.den / m)
 
-pub record MeasuresAll (p : Path) (b : Pair) : Type 0 where
+pub record MeasuresAll (p : Server) (b : Pair) : Type 0 where
   pub some : pos 0 <ℤ common_cofactor p b
   pub measures : Measures p (common_scale p b) (common_cofactor p b)
   pub buffer_is : common_cofactor p b *ℤ (common_scale p b).buffer ≡ p.rate.den
 
-pub common_measures : (p : Path) (b : Pair) → IsPath p → IsNumber b → p.buffer ≡ Some b → MeasuresAll p b
+pub common_measures : (p : Server) (b : Pair) → IsServer p → IsNumber b → p.buffer ≡ Some b → MeasuresAll p b
 common_measures p b path number is =
     let u : ℕ = unsigned_abs p.rate.den in
     let v : ℕ = unsigned_abs b.den in

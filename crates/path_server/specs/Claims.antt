@@ -1,7 +1,7 @@
 -- The comparisons of the path rules, in their written order, with the relation to zero in which each sum has to stand.
 -- They are stated for any way `term` of making a term of a coefficient and a subject, and for n flows.
 -- Coefficients are whole: a comparison is multiplied with the least common multiple of the denominators of its constants.
-use Rattle.std.specs.Prelude.{ℕ, zero, suc, ◌-◌, ◌==◌, nat_lt, ◌/◌, if◌then◌else◌, ℤ, pos, negsuc, neg_ℤ, ◌-ℤ◌, ◌*ℤ◌, unsigned_abs, Option, Some, None, List, [], ◌∷◌, ◌++◌}
+use Rattle.std.specs.Prelude.{ℕ, ◌-◌, ◌==◌, nat_lt, ◌/◌, if◌then◌else◌, ℤ, pos, negsuc, neg_ℤ, ◌-ℤ◌, ◌*ℤ◌, unsigned_abs, Option, Some, None, List, [], ◌∷◌, ◌++◌}
 use Rattle.whole.specs.Numbers.{lcm_of}
 use Rattle.whole.specs.declared.answers.Pair.{Pair}
 use Rattle.condition_tree.specs.Trees.{any_of}
@@ -10,6 +10,7 @@ use Rattle.weighing.specs.declared.weighings.Rel5.TheVariants.{AtMost, AtLeast, 
 use Rattle.claims.specs.Subjects.{Subject, constant, of_credit, of_waste, of_arrivals, of_service, of_losses, each_flow, in_run}
 use Rattle.run_rows.specs.Runs.{flow_count}
 use Rattle.run_rows.specs.declared.rows.Run.{Run}
+use Rattle.path_server.specs.Servers.{Server, server_of}
 use Rattle.path_server.specs.declared.settings.Path.{Path}
 use Rattle.path_server.specs.declared.path_rules.PathRule.{PathRule}
 use Rattle.path_server.specs.declared.path_rules.PathRule.TheVariants.{Start, Growth, Service, Ceiling, Floor, Waste, Acceptance, Buffer, Loss, WasteRate}
@@ -23,11 +24,11 @@ pub record Factors : Type 0 where
   pub buffer : ℤ
 
 -- the rate alone has a denominator
-abbrev pub rate_scale : Path → Factors
+abbrev pub rate_scale : Server → Factors
 rate_scale p = record { unit = p.rate.den; minus = neg_ℤ p.rate.den; rate = pos 1; buffer = pos 0 }
 
 -- both the rate and the buffer have one
-abbrev pub common_scale : Path → Pair → Factors
+abbrev pub common_scale : Server → Pair → Factors
 common_scale p b =
     let m = lcm_of (unsigned_abs p.rate.den) (unsigned_abs b.den) in
     record { unit = pos m; minus = neg_ℤ (pos m); rate = pos (m / unsigned_abs p.rate.den); buffer = pos (m / unsigned_abs b.den) }
@@ -37,7 +38,7 @@ abbrev pub opposite : Factors → Factors
 opposite s = record { unit = s.minus; minus = s.unit; rate = neg_ℤ s.rate; buffer = neg_ℤ s.buffer }
 
 -- C*(i - d) + Q0 - W(max(i - d, 0)), the most that may have been served d rows before row i
-abbrev pub allowance : {T : Type 0} → (ℤ → Subject → T) → Path → Factors → ℕ → ℕ → List T
+abbrev pub allowance : {T : Type 0} → (ℤ → Subject → T) → Server → Factors → ℕ → ℕ → List T
 allowance term p s i d =
     term ((p.rate.num *ℤ (pos i -ℤ pos d)) *ℤ s.rate) constant
     ∷ term s.unit of_credit
@@ -90,21 +91,21 @@ service_claims term i f =
     if f == 0 then []
     else compare (term (pos 1) (of_arrivals i f) ∷ term (negsuc 0) (of_losses i f) ∷ term (negsuc 0) (of_service i f) ∷ []) AtLeast ∷ []
 
-unfoldable pub ceiling_claims : {T : Type 0} → (ℤ → Subject → T) → ℕ → Path → ℕ → ℕ → List (Claims T)
+unfoldable pub ceiling_claims : {T : Type 0} → (ℤ → Subject → T) → ℕ → Server → ℕ → ℕ → List (Claims T)
 ceiling_claims term n p i f =
     if nat_lt 0 f then []
     else compare (allowance term p (rate_scale p) i 0 ++ service term n (opposite (rate_scale p)) i) AtLeast ∷ []
 
-unfoldable pub floor_claims : {T : Type 0} → (ℤ → Subject → T) → ℕ → Path → ℕ → ℕ → List (Claims T)
+unfoldable pub floor_claims : {T : Type 0} → (ℤ → Subject → T) → ℕ → Server → ℕ → ℕ → List (Claims T)
 floor_claims term n p i f =
     if nat_lt 0 f then []
     else compare (service term n (rate_scale p) i ++ allowance term p (opposite (rate_scale p)) i p.jitter) AtLeast ∷ []
 
 -- nothing waits: C*i + Q0 - W(i) - sum (A_f(i) - L_f(i)) >= 0
-unfoldable pub nothing_waits : {T : Type 0} → (ℤ → Subject → T) → ℕ → Path → ℕ → Claims T
+unfoldable pub nothing_waits : {T : Type 0} → (ℤ → Subject → T) → ℕ → Server → ℕ → Claims T
 nothing_waits term n p i = compare (allowance term p (rate_scale p) i 0 ++ accepted term n (opposite (rate_scale p)) i) AtLeast
 
-unfoldable pub waste_claims : {T : Type 0} → (ℤ → Subject → T) → ℕ → Path → ℕ → ℕ → List (Claims T)
+unfoldable pub waste_claims : {T : Type 0} → (ℤ → Subject → T) → ℕ → Server → ℕ → ℕ → List (Claims T)
 waste_claims term n p i f =
     if i == 0 then [] else if nat_lt 0 f then []
     else any_of (compare (term (pos 1) (of_waste i) ∷ term (negsuc 0) (of_waste (i - 1)) ∷ []) AtMost) (nothing_waits term n p i) ∷ []
@@ -116,37 +117,37 @@ acceptance_claims term i f =
     ∷ term (negsuc 0) (of_arrivals (i - 1) f) ∷ term (pos 1) (of_losses (i - 1) f) ∷ []) AtLeast ∷ []
 
 -- the queue fits: C*i + Q0 - W(i) + B - sum (A_f(i) - L_f(i)) >= 0
-unfoldable pub queue_fits : {T : Type 0} → (ℤ → Subject → T) → ℕ → Path → Pair → ℕ → Claims T
+unfoldable pub queue_fits : {T : Type 0} → (ℤ → Subject → T) → ℕ → Server → Pair → ℕ → Claims T
 queue_fits term n p b i =
     let s = common_scale p b in
     compare ((allowance term p s i 0 ++ room term b s) ++ accepted term n (opposite s) i) AtLeast
 
-unfoldable pub buffer_claims : {T : Type 0} → (ℤ → Subject → T) → ℕ → Path → Option Pair → ℕ → ℕ → List (Claims T)
+unfoldable pub buffer_claims : {T : Type 0} → (ℤ → Subject → T) → ℕ → Server → Option Pair → ℕ → ℕ → List (Claims T)
 buffer_claims term n p None i f = []
 buffer_claims term n p (Some b) i f = if nat_lt 0 f then [] else queue_fits term n p b i ∷ []
 
 -- the queue was full: sum (A_f(i) - L_f(i)) - C*h - Q0 + W(h) - B >= 0, h being the row before
-unfoldable pub queue_was_full : {T : Type 0} → (ℤ → Subject → T) → ℕ → Path → Pair → ℕ → ℕ → Claims T
+unfoldable pub queue_was_full : {T : Type 0} → (ℤ → Subject → T) → ℕ → Server → Pair → ℕ → ℕ → Claims T
 queue_was_full term n p b i h =
     let s = common_scale p b in
     compare ((accepted term n s i ++ allowance term p (opposite s) h 0) ++ room term b (opposite s)) AtLeast
 
 -- nothing more was lost, or the queue was full
-unfoldable pub full_or_none : {T : Type 0} → (ℤ → Subject → T) → ℕ → Path → Option Pair → ℕ → ℕ → Claims T
+unfoldable pub full_or_none : {T : Type 0} → (ℤ → Subject → T) → ℕ → Server → Option Pair → ℕ → ℕ → Claims T
 full_or_none term n p None i h = compare (new_losses term n i h) AtMost
 full_or_none term n p (Some b) i h = any_of (compare (new_losses term n i h) AtMost) (queue_was_full term n p b i h)
 
-unfoldable pub loss_claims : {T : Type 0} → (ℤ → Subject → T) → ℕ → Path → Option Pair → ℕ → ℕ → List (Claims T)
+unfoldable pub loss_claims : {T : Type 0} → (ℤ → Subject → T) → ℕ → Server → Option Pair → ℕ → ℕ → List (Claims T)
 loss_claims term n p b i f =
     if i == 0 then [] else if nat_lt 0 f then [] else full_or_none term n p b i (i - 1) ∷ []
 
-unfoldable pub waste_rate_claims : {T : Type 0} → (ℤ → Subject → T) → Path → ℕ → ℕ → List (Claims T)
+unfoldable pub waste_rate_claims : {T : Type 0} → (ℤ → Subject → T) → Server → ℕ → ℕ → List (Claims T)
 waste_rate_claims term p i f =
     if i == 0 then [] else if nat_lt 0 f then []
     else compare (term p.rate.num constant ∷ term (neg_ℤ p.rate.den) (of_waste i) ∷ term p.rate.den (of_waste (i - 1)) ∷ []) AtLeast ∷ []
 
 -- what a rule claims at a row for a flow, or, under flow 0, for the path as a whole
-abbrev pub rule_claims : {T : Type 0} → (ℤ → Subject → T) → ℕ → Path → PathRule → ℕ → ℕ → List (Claims T)
+abbrev pub rule_claims : {T : Type 0} → (ℤ → Subject → T) → ℕ → Server → PathRule → ℕ → ℕ → List (Claims T)
 rule_claims term n p Start i f = start_claims term i f
 rule_claims term n p Growth i f = growth_claims term i f
 rule_claims term n p Service i f = service_claims term i f
@@ -160,4 +161,4 @@ rule_claims term n p WasteRate i f = waste_rate_claims term p i f
 
 -- what is weighed in a run
 abbrev pub claim_of : Path → Run → PathRule → ℕ → ℕ → Claim
-claim_of p r rule i f = all_claims (rule_claims (in_run r) (flow_count r 0) p rule i f)
+claim_of p r rule i f = all_claims (rule_claims (in_run r) (flow_count r 0) (server_of p) rule i f)

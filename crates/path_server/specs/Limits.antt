@@ -1,6 +1,7 @@
 -- The limits within which the product works.
 use Rattle.std.specs.Prelude.{◌≤◌, pos, ◌≤ℤ◌, Option, Some, None}
 use Rattle.whole.specs.declared.answers.Pair.{Pair}
+use Rattle.path_server.specs.Servers.{Server, server_of}
 use Rattle.path_server.specs.declared.settings.Path.{Path}
 use Rattle.path_server.specs.declared.settings.Setting.{Setting}
 
@@ -15,11 +16,14 @@ abbrev pub IsBuffer : Option Pair → Type 0
 IsBuffer None = Unit {0}
 IsBuffer (Some b) = IsNumber b
 
-pub record IsPath (p : Path) : Type 0 where
+pub record IsServer (p : Server) : Type 0 where
   pub rate : IsNumber p.rate
   pub rate_from : pos 1 ≤ℤ p.rate.num
   pub jitter_to : p.jitter ≤ 8
   pub buffer : IsBuffer p.buffer
+
+abbrev pub IsPath : Path → Type 0
+IsPath p = IsServer (server_of p)
 
 pub record IsSetting (s : Setting) : Type 0 where
   pub flows_from : 1 ≤ s.flows

@@ -1,12 +1,14 @@
 -- The order in which a run is examined: by rows, in a row by rules, in a rule by flows, and what is found first.
-use Rattle.std.specs.Prelude.{◌≡◌, ℕ, ◌+◌, Bool, true, false, Result, Ok, Err, List, [], ◌∷◌, ◌++◌, All, map, length, flat_map}
+use Rattle.std.specs.Prelude.{◌≡◌, ◌↔◌, ℕ, ◌+◌, Bool, true, false, Result, Ok, Err, List, [], ◌∷◌, ◌++◌, All, map, length, flat_map}
 use Rattle.whole.specs.declared.answers.Stuck.{Stuck}
 use Rattle.weighing.specs.First.{below, first}
 use Rattle.weighing.specs.Claim.{outcome}
+use Rattle.weighing.specs.Passing.{IsFirstPassing, NothingPasses as NothingPassesIn}
 use Rattle.run_rows.specs.Runs.{flow_count}
 use Rattle.run_rows.specs.declared.rows.Run.{Run}
 use Rattle.path_server.specs.Claims.{claim_of}
 use Rattle.path_server.specs.Rules.{RuleHolds}
+use Rattle.path_server.specs.Servers.{server_of}
 use Rattle.path_server.specs.declared.settings.Path.{Path}
 use Rattle.path_server.specs.declared.admission.Admit.{Admit}
 use Rattle.path_server.specs.declared.admission.Admit.TheVariants.{Yes, Broken, Wide}
@@ -65,32 +67,52 @@ answer (Err stop) = stop
 unfoldable pub admission : Path → Run → Admit
 admission p r = answer (first (examined p r) (places r))
 
--- the weighing of some comparison of the place is stuck there
+-- the first product or sum that passes in weighing the place's comparisons; and that none does
 abbrev pub IsStuckAt : Path → Run → Place → Stuck → Type 0
-IsStuckAt p r place stuck = outcome place.row (claim_of p r place.rule place.row place.flow) ≡ Err stuck
+IsStuckAt p r place stuck = IsFirstPassing place.row (claim_of p r place.rule place.row place.flow) stuck
+
+abbrev pub NothingPassesAt : Path → Run → Place → Type 0
+NothingPassesAt p r place = NothingPassesIn (claim_of p r place.rule place.row place.flow)
 
 abbrev pub HoldsAt : Path → Run → Place → Type 0
-HoldsAt p r place = RuleHolds p r place.rule place.row place.flow
+HoldsAt p r place = RuleHolds (server_of p) r place.rule place.row place.flow
 
--- the rule of that number is broken at row i for flow f, and every rule holds at every place before
-pub record IsFirstBroken (p : Path) (r : Run) (rule i f : ℕ) : Type 0 where
+-- of these places: the rule of that number is broken at row i for flow f; every rule holds at every place before; and
+-- nothing passes at it and before
+pub record IsFirstBrokenOf (p : Path) (r : Run) (ps : List Place) (rule i f : ℕ) : Type 0 where
   pub before : List Place
   pub broken : PathRule
   pub after : List Place
   pub numbered : number broken ≡ rule
-  pub parts : places r ≡ before ++ at_place i broken f ∷ after
+  pub parts : ps ≡ before ++ at_place i broken f ∷ after
+  pub weighed : All (NothingPassesAt p r) before
   pub held : All (HoldsAt p r) before
-  pub breaks : RuleHolds p r broken i f → ⊥
+  pub weighed_here : NothingPassesAt p r (at_place i broken f)
+  pub breaks : RuleHolds (server_of p) r broken i f → ⊥
 
--- a weighing is stuck at a place, and every rule holds at every place before
-pub record IsFirstWide (p : Path) (r : Run) (stuck : Stuck) : Type 0 where
+-- of these places: a weighing is stuck at one; every rule holds at every place before, and nothing passes there
+pub record IsFirstWideOf (p : Path) (r : Run) (ps : List Place) (stuck : Stuck) : Type 0 where
   pub before : List Place
   pub place : Place
   pub after : List Place
-  pub parts : places r ≡ before ++ place ∷ after
+  pub parts : ps ≡ before ++ place ∷ after
+  pub weighed : All (NothingPassesAt p r) before
   pub held : All (HoldsAt p r) before
   pub passes : IsStuckAt p r place stuck
 
--- no weighing is stuck anywhere
+-- what is found at these places, in their order: nothing where every rule holds and nothing passes, else what comes first
+pub record Finds (p : Path) (r : Run) (ps : List Place) (found : Result (Unit {0}) Admit) : Type 0 where
+  pub none : (found ≡ Ok tt) ↔ (All (NothingPassesAt p r) ps × All (HoldsAt p r) ps)
+  pub broken : (rule i f : ℕ) → (found ≡ Err (Broken rule i f)) ↔ IsFirstBrokenOf p r ps rule i f
+  pub wide : (stuck : Stuck) → (found ≡ Err (Wide stuck)) ↔ IsFirstWideOf p r ps stuck
+  pub never_yes : found ≡ Err Yes → ⊥
+
+abbrev pub IsFirstBroken : Path → Run → ℕ → ℕ → ℕ → Type 0
+IsFirstBroken p r rule i f = IsFirstBrokenOf p r (places r) rule i f
+
+abbrev pub IsFirstWide : Path → Run → Stuck → Type 0
+IsFirstWide p r stuck = IsFirstWideOf p r (places r) stuck
+
+-- nothing passes anywhere
 abbrev pub NothingPasses : Path → Run → Type 0
-NothingPasses p r = All (λ place. (stuck : Stuck) → IsStuckAt p r place stuck → ⊥) (places r)
+NothingPasses p r = All (NothingPassesAt p r) (places r)

@@ -1,8 +1,8 @@
-ghost use Rattle.std.specs.Prelude.{◌≡◌, ◌<◌, ◌≤◌, ℕ, length};
+ghost use Rattle.std.specs.Prelude.{◌≡◌, ◌<◌, ◌≤◌, ◌⊎◌, ℕ, length};
 ghost use Rattle.whole.specs.declared.answers.Stuck.{Stuck};
 ghost use Rattle.run_rows.specs.Runs.{IsRun, flow_count};
 ghost use Rattle.path_server.specs.Limits.{IsPath};
-ghost use Rattle.path_server.specs.Places.{IsFirstBroken, IsFirstWide, NothingPasses, admission, at_place, examined, places, places_of_row, places_of_rule};
+ghost use Rattle.path_server.specs.Places.{Finds, IsFirstBroken, IsFirstWide, NothingPasses, admission, answer, at_place, examined, places, places_of_row, places_of_rule};
 ghost use Rattle.path_server.specs.Rules.{Admitted};
 ghost use Rattle.weighing.specs.First.{first};
 
@@ -28,11 +28,24 @@ pub fn admits(path: &Path, run: &Run) -> Admit
     requires run_in { IsRun run.now }
     ensures exact { result ≡ admission path.now run.now }
     ensures admitted { result ≡ Admit.Yes → Admitted path.now run.now }
+    ensures weighed { result ≡ Admit.Yes → NothingPasses path.now run.now }
     ensures complete { Admitted path.now run.now → NothingPasses path.now run.now → result ≡ Admit.Yes }
     ensures broken { (rule row flow : ℕ) → result ≡ Admit.Broken rule row flow → IsFirstBroken path.now run.now rule row flow }
+    ensures broken_found { (rule row flow : ℕ) → IsFirstBroken path.now run.now rule row flow → result ≡ Admit.Broken rule row flow }
     ensures wide { (stuck : Stuck) → result ≡ Admit.Wide stuck → IsFirstWide path.now run.now stuck }
+    ensures wide_found { (stuck : Stuck) → IsFirstWide path.now run.now stuck → result ≡ Admit.Wide stuck }
+
+    // A run that the path admits is never found to break a rule.
+    ensures admitted_found { Admitted path.now run.now → (result ≡ Admit.Yes) ⊎ ((stuck : Stuck) × (result ≡ Admit.Wide stuck)) }
 {
-    match examine(path, run) {
+    answer(examine(path, run))
+}
+
+/// `Yes` where nothing is found.
+fn answer(found: Result<(), Admit>) -> Admit
+    ensures { result ≡ answer found }
+{
+    match found {
         Ok(()) => Admit::Yes,
         Err(stop) => stop,
     }
@@ -56,7 +69,8 @@ pub fn examine_row(path: &Path, run: &Run, row: u32) -> Result<(), Admit>
     requires path_in { IsPath path.now }
     requires run_in { IsRun run.now }
     requires row_in { row < length run.now.rows }
-    ensures { result ≡ first (examined path.now run.now) (places_of_row run.now row) }
+    ensures exact { result ≡ first (examined path.now run.now) (places_of_row run.now row) }
+    ensures means { Finds path.now run.now (places_of_row run.now row) result }
 {
     for rule in PathRule::ALL {
         examine_rule(path, run, rule, row)?;

@@ -4,6 +4,7 @@ ghost use Rattle.claims.specs.Subjects.{in_run};
 ghost use Rattle.run_rows.specs.Runs.{IsRun, flow_count};
 ghost use Rattle.weighing.specs.Weighed.{weighed_from};
 ghost use Rattle.path_server.specs.Limits.{IsNumber, IsPath};
+ghost use Rattle.path_server.specs.Servers.{server_of};
 ghost use Rattle.path_server.specs.Scales.{IsScale, factors};
 ghost use Rattle.path_server.specs.Claims.{accepted, allowance, new_losses, room, service};
 
@@ -72,7 +73,7 @@ pub fn plus_allowance(
     requires row_in { row < length run.now.rows }
     requires back_in { back ≤ 8 }
     requires scale_in { IsScale scale.now }
-    ensures { result ≡ weighed_from start (allowance (in_run run.now) path.now (factors scale.now) row back) }
+    ensures { result ≡ weighed_from start (allowance (in_run run.now) (server_of path.now) (factors scale.now) row back) }
 {
     let rate = scale.rate_over(path, row, back);
     let wasted = run.waste(row.saturating_sub(back));

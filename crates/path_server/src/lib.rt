@@ -10,4 +10,6 @@ mod server_rules;
 mod settings;
 
 pub use admission::{Admit, admits, examine_row};
+pub use path_rules::PathRule;
+pub use scales::Scale;
 pub use settings::{Path, Setting};

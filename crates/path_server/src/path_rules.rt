@@ -72,7 +72,7 @@ impl PathRule {
 
     /// Whether the rule holds at a row for a flow or, under flow 0, for the path as a whole, or the first
     /// operation that passes in weighing its comparisons there.
-    pub fn outcome(self, path: &Path, run: &Run, row: u32, flow: u32) -> Result<bool, Stuck>
+    pub(crate) fn outcome(self, path: &Path, run: &Run, row: u32, flow: u32) -> Result<bool, Stuck>
         requires path_in { IsPath path.now }
         requires run_in { IsRun run.now }
         requires row_in { row < length run.now.rows }

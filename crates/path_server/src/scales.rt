@@ -22,11 +22,12 @@ pub struct Scale {
 impl Scale {
     ghost use Rattle.path_server.specs.Claims.{common_scale, opposite, rate_scale};
     ghost use Rattle.path_server.specs.Scales.{IsScale, factors};
+    ghost use Rattle.path_server.specs.Servers.{server_of};
 
     /// For comparisons whose constants are multiples of the rate alone.
     pub fn of_rate(path: &Path) -> Scale
         requires { IsPath path.now }
-        ensures value { factors result ≡ rate_scale path.now }
+        ensures value { factors result ≡ rate_scale (server_of path.now) }
         ensures within { IsScale result }
     {
         Scale {
@@ -41,7 +42,7 @@ impl Scale {
     pub fn of_buffer(path: &Path, buffer: &Pair) -> Scale
         requires path_in { IsPath path.now }
         requires buffer_in { IsNumber buffer.now }
-        ensures value { factors result ≡ common_scale path.now buffer.now }
+        ensures value { factors result ≡ common_scale (server_of path.now) buffer.now }
         ensures within { IsScale result }
     {
         let unit = common(path.rate.den, buffer.den);
@@ -74,7 +75,7 @@ impl Scale {
         requires row_in { row < 64 }
         requires back_in { back ≤ 8 }
         ensures value { result ≡ (path.now.rate.num *ℤ (pos row -ℤ pos back)) *ℤ self.now.rate }
-        ensures within { unsigned_abs result < 2 ^ 127 }
+        ensures within { unsigned_abs result ≤ 72000000000 }
     {
         path.rate.num * (i128::from(row) - i128::from(back)) * self.rate
     }
@@ -84,7 +85,7 @@ impl Scale {
         requires scale { IsScale self.now }
         requires buffer_in { IsNumber buffer.now }
         ensures value { result ≡ buffer.now.num *ℤ self.now.buffer }
-        ensures within { unsigned_abs result < 2 ^ 127 }
+        ensures within { unsigned_abs result ≤ 1000000000 }
     {
         buffer.num * self.buffer
     }

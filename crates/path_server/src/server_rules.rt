@@ -5,6 +5,7 @@ ghost use Rattle.run_rows.specs.Runs.{IsRun, flow_count};
 ghost use Rattle.weighing.specs.Claim.{all_claims, outcome};
 ghost use Rattle.path_server.specs.Claims.{buffer_claims, ceiling_claims, floor_claims, full_or_none, loss_claims, nothing_waits, queue_fits, queue_was_full, waste_claims, waste_rate_claims};
 ghost use Rattle.path_server.specs.Limits.{IsNumber, IsPath};
+ghost use Rattle.path_server.specs.Servers.{server_of};
 
 use crate::entries::{plus_accepted, plus_allowance, plus_new_losses, plus_room, plus_service};
 use crate::scales::Scale;
@@ -19,7 +20,7 @@ pub fn ceiling(path: &Path, run: &Run, row: u32, flow: u32) -> Result<bool, Stuc
     requires path_in { IsPath path.now }
     requires run_in { IsRun run.now }
     requires row_in { row < length run.now.rows }
-    ensures { result ≡ outcome row (all_claims (ceiling_claims (in_run run.now) (flow_count run.now 0) path.now row flow)) }
+    ensures { result ≡ outcome row (all_claims (ceiling_claims (in_run run.now) (flow_count run.now 0) (server_of path.now) row flow)) }
 {
     if flow > 0 {
         return Ok(true);
@@ -36,7 +37,7 @@ pub fn floor(path: &Path, run: &Run, row: u32, flow: u32) -> Result<bool, Stuck>
     requires path_in { IsPath path.now }
     requires run_in { IsRun run.now }
     requires row_in { row < length run.now.rows }
-    ensures { result ≡ outcome row (all_claims (floor_claims (in_run run.now) (flow_count run.now 0) path.now row flow)) }
+    ensures { result ≡ outcome row (all_claims (floor_claims (in_run run.now) (flow_count run.now 0) (server_of path.now) row flow)) }
 {
     if flow > 0 {
         return Ok(true);
@@ -53,7 +54,7 @@ pub fn waste(path: &Path, run: &Run, row: u32, flow: u32) -> Result<bool, Stuck>
     requires path_in { IsPath path.now }
     requires run_in { IsRun run.now }
     requires row_in { row < length run.now.rows }
-    ensures { result ≡ outcome row (all_claims (waste_claims (in_run run.now) (flow_count run.now 0) path.now row flow)) }
+    ensures { result ≡ outcome row (all_claims (waste_claims (in_run run.now) (flow_count run.now 0) (server_of path.now) row flow)) }
 {
     if row == 0 || flow > 0 {
         return Ok(true);
@@ -70,7 +71,7 @@ fn nothing_waits(path: &Path, run: &Run, row: u32) -> Result<bool, Stuck>
     requires path_in { IsPath path.now }
     requires run_in { IsRun run.now }
     requires row_in { row < length run.now.rows }
-    ensures { result ≡ outcome row (nothing_waits (in_run run.now) (flow_count run.now 0) path.now row) }
+    ensures { result ≡ outcome row (nothing_waits (in_run run.now) (flow_count run.now 0) (server_of path.now) row) }
 {
     let scale = Scale::of_rate(path);
     let opposite = scale.opposite();
@@ -84,7 +85,7 @@ pub fn buffer(path: &Path, run: &Run, row: u32, flow: u32) -> Result<bool, Stuck
     requires path_in { IsPath path.now }
     requires run_in { IsRun run.now }
     requires row_in { row < length run.now.rows }
-    ensures { result ≡ outcome row (all_claims (buffer_claims (in_run run.now) (flow_count run.now 0) path.now path.now.buffer row flow)) }
+    ensures { result ≡ outcome row (all_claims (buffer_claims (in_run run.now) (flow_count run.now 0) (server_of path.now) path.now.buffer row flow)) }
 {
     match &path.buffer {
         Some(buffer) if flow == 0 => queue_fits(path, buffer, run, row),
@@ -98,7 +99,7 @@ fn queue_fits(path: &Path, buffer: &Pair, run: &Run, row: u32) -> Result<bool, S
     requires buffer_in { IsNumber buffer.now }
     requires run_in { IsRun run.now }
     requires row_in { row < length run.now.rows }
-    ensures { result ≡ outcome row (queue_fits (in_run run.now) (flow_count run.now 0) path.now buffer.now row) }
+    ensures { result ≡ outcome row (queue_fits (in_run run.now) (flow_count run.now 0) (server_of path.now) buffer.now row) }
 {
     let scale = Scale::of_buffer(path, buffer);
     let opposite = scale.opposite();
@@ -113,7 +114,7 @@ pub fn loss(path: &Path, run: &Run, row: u32, flow: u32) -> Result<bool, Stuck>
     requires path_in { IsPath path.now }
     requires run_in { IsRun run.now }
     requires row_in { row < length run.now.rows }
-    ensures { result ≡ outcome row (all_claims (loss_claims (in_run run.now) (flow_count run.now 0) path.now path.now.buffer row flow)) }
+    ensures { result ≡ outcome row (all_claims (loss_claims (in_run run.now) (flow_count run.now 0) (server_of path.now) path.now.buffer row flow)) }
 {
     if row == 0 || flow > 0 {
         return Ok(true);
@@ -132,7 +133,7 @@ fn queue_was_full(path: &Path, buffer: &Pair, run: &Run, row: u32) -> Result<boo
     requires run_in { IsRun run.now }
     requires row_from { 0 < row }
     requires row_in { row < length run.now.rows }
-    ensures { result ≡ outcome row (queue_was_full (in_run run.now) (flow_count run.now 0) path.now buffer.now row (row - 1)) }
+    ensures { result ≡ outcome row (queue_was_full (in_run run.now) (flow_count run.now 0) (server_of path.now) buffer.now row (row - 1)) }
 {
     let scale = Scale::of_buffer(path, buffer);
     let opposite = scale.opposite();
@@ -147,7 +148,7 @@ pub fn waste_rate(path: &Path, run: &Run, row: u32, flow: u32) -> Result<bool, S
     requires path_in { IsPath path.now }
     requires run_in { IsRun run.now }
     requires row_in { row < length run.now.rows }
-    ensures { result ≡ outcome row (all_claims (waste_rate_claims (in_run run.now) path.now row flow)) }
+    ensures { result ≡ outcome row (all_claims (waste_rate_claims (in_run run.now) (server_of path.now) row flow)) }
 {
     if row == 0 || flow > 0 {
         return Ok(true);

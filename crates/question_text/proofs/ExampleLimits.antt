@@ -73,7 +73,7 @@ setting_in = record {
   budget_to = omega arith;
 }
 
-question_in : IsQuestion 1 question
+pub question_in : IsQuestion 1 question
 question_in = record {
   setting_in = setting_in;
   assumes_to = omega arith;

@@ -1,21 +1,18 @@
 -- What is claimed of a run, what it means, and which weighing stops it.
 use Rattle.run_rows.specs.Runs.{flow_count}
 use Rattle.claims.specs.Subjects.{in_run}
-use Rattle.std.proofs.Common.{◌≡◌, ℕ, zero, suc, ℤ, pos, neg_ℤ, ◌+ℤ◌, ◌-ℤ◌, ◌*ℤ◌, Bool, true, false, Result, Ok, Err, List, [], ◌∷◌, ◌++◌, map, refl, sym, ◌∙◌, ap, arith}
+use Rattle.std.proofs.Common.{◌≡◌, ℕ, zero, suc, ℤ, pos, neg_ℤ, ◌+ℤ◌, ◌-ℤ◌, ◌*ℤ◌, ◌⊎◌, inl, inr, Bool, true, false, Result, Ok, Err, List, [], ◌∷◌, map, refl, sym, ◌∙◌, ap, arith}
 use Rattle.std.specs.Prelude.{All}
 use Rattle.std.proofs.lemmas.Int.{ints}
 use Rattle.std.proofs.lemmas.List.Elements.{All-nil, All-cons, All-head, All-tail}
 use Rattle.whole.specs.declared.answers.Stuck.{Stuck}
 use Rattle.whole.proofs.Integers.{neg_ℤ-*ℤ}
-use Rattle.weighing.specs.First.{and_then, first}
-use Rattle.condition_tree.specs.Trees.{Says}
-use Rattle.weighing.specs.Claim.{Holds, both_outcomes, either_outcome, not_outcome, outcome, total}
-use Rattle.weighing.specs.Weighed.{related, weighed, times}
+use Rattle.weighing.specs.Claim.{Holds, total}
+use Rattle.weighing.specs.Passing.{Answers}
+use Rattle.weighing.specs.Weighed.{times}
 use Rattle.weighing.specs.declared.scales.Side.TheVariants.{Left, Right}
 use Rattle.weighing.specs.declared.weighings.Rel5.{Rel5}
-use Rattle.weighing.specs.declared.weighings.Term.{Term}
-use Rattle.weighing.proofs.Claims.{outcome_says}
-use Rattle.weighing.proofs.Events.{first-append, first_is_first}
+use Rattle.weighing.proofs.Claims.{outcome_answers}
 use Rattle.run_rows.specs.declared.rows.Run.{Run}
 use Rattle.path_server.proofs.RuleLaws.{Means}
 use Rattle.path_server.proofs.Totals.{total-append, total-each_flow}
@@ -24,7 +21,7 @@ use Rattle.ctrl_meaning.proofs.TestLaws.{both_mean, either_means}
 use Rattle.ctrl_meaning.proofs.Values.{stands_means}
 use Rattle.question_text.specs.Conditions.{Condition, always, never, leaf, compares, opposite, end_of_all, all_of, end_of_any, any_of, condition_of, conjunction}
 use Rattle.question_text.specs.Expressions.{comparison_claim, comparison_terms, condition_claim, lin_terms, scale_of_two, term_terms}
-use Rattle.question_text.specs.Meaning.{IsFirstPassing, IsTrueIn, Violates, comparisons_of, stop_of, value, weighs}
+use Rattle.question_text.specs.Meaning.{IsFirstPassing, IsTrueIn, NothingPasses, Violates, value}
 use Rattle.question_text.specs.Names.{amount, flow_amount, flow_terms, of_terms}
 use Rattle.question_text.specs.Violation.{assumptions, rows_of, violation, violation_claim}
 use Rattle.question_text.specs.declared.names.Rows.{Rows}
@@ -86,7 +83,7 @@ comparison_means r at left rel right =
     (left_total r at m left.terms) (right_total r at m right.terms))
 
 -- a condition's claim holds exactly where the condition is true
-condition_means : (r : Run) (at : Rows) (c : Condition) → Means (Holds (condition_claim (in_run r) (flow_count r 0) at c)) (IsTrueIn r at c)
+pub condition_means : (r : Run) (at : Rows) (c : Condition) → Means (Holds (condition_claim (in_run r) (flow_count r 0) at c)) (IsTrueIn r at c)
 condition_means r at always = (λ h. tt, λ h. tt)
 condition_means r at never = (λ h. h, λ h. h)
 condition_means r at (leaf (compares left rel right)) = comparison_means r at left rel right
@@ -122,76 +119,39 @@ violation_means q r =
       λ v. (assumed.1 (all_true r at q.assumes v.assumed), λ p. v.broken (required.0 p)),
     )
 
-violation_says : (q : Question) (r : Run) (b : Bool) → violation q r ≡ Ok b → Says b (Holds (violation_claim (in_run r) (flow_count r 0) (rows_of q r) q))
-unfolding violation
-violation_says q r b is = outcome_says (rows_of q r).last (violation_claim (in_run r) (flow_count r 0) (rows_of q r) q) b is
+-- what is answered is whether the run violates the question, or the first operation that passes
+module _ (q : Question) (r : Run) where
+  says : Answers (rows_of q r).last (violation_claim (in_run r) (flow_count r 0) (rows_of q r) q) (violation q r)
+  unfolding violation
+  says = outcome_answers (rows_of q r).last (violation_claim (in_run r) (flow_count r 0) (rows_of q r) q)
 
-pub violated_law : (q : Question) (r : Run) → violation q r ≡ Ok true → Violates q r
-violated_law q r is = (violation_means q r).0 (violation_says q r true is)
+  pub violated_law : violation q r ≡ Ok true → NothingPasses q r × Violates q r
+  violated_law is = let both = says.holds.0 is in (both.0, (violation_means q r).0 both.1)
 
-pub kept_law : (q : Question) (r : Run) → violation q r ≡ Ok false → Violates q r → ⊥
-kept_law q r is violates = violation_says q r false is ((violation_means q r).1 violates)
+  pub violated_again : NothingPasses q r → Violates q r → violation q r ≡ Ok true
+  violated_again small violates = says.holds.1 (small, (violation_means q r).1 violates)
 
--- what stops the weighing of a claim is what stops its comparisons
-stop_both : (p q : Result Bool Stuck) → stop_of (both_outcomes p q) ≡ and_then (stop_of p) (stop_of q)
-stop_both (Err e) q = refl
-stop_both (Ok a) (Err e) = refl
-stop_both (Ok a) (Ok b) = refl
+  pub kept_law : violation q r ≡ Ok false → NothingPasses q r × (Violates q r → ⊥)
+  kept_law is = let both = says.fails.0 is in (both.0, λ violates. both.1 ((violation_means q r).1 violates))
 
-stop_either : (p q : Result Bool Stuck) → stop_of (either_outcome p q) ≡ and_then (stop_of p) (stop_of q)
-stop_either (Err e) q = refl
-stop_either (Ok a) (Err e) = refl
-stop_either (Ok a) (Ok b) = refl
+  pub kept_again : NothingPasses q r → (Violates q r → ⊥) → violation q r ≡ Ok false
+  kept_again small keeps = says.fails.1 (small, λ holds. keeps ((violation_means q r).0 holds))
 
-stop_not : (p : Result Bool Stuck) → stop_of (not_outcome p) ≡ stop_of p
-stop_not (Err e) = refl
-stop_not (Ok a) = refl
+  pub stuck_law : (stuck : Stuck) → violation q r ≡ Err stuck → IsFirstPassing q r stuck
+  stuck_law stuck = (says.stuck stuck).0
 
-stop_related : (rel : Rel5) (sum : Result ℤ Stuck) → stop_of (related rel sum) ≡ and_then (stop_of sum) (Ok tt)
-stop_related rel (Err e) = refl
-stop_related rel (Ok z) = refl
+  pub stuck_again : (stuck : Stuck) → IsFirstPassing q r stuck → violation q r ≡ Err stuck
+  stuck_again stuck = (says.stuck stuck).1
 
-both_stop : (row : ℕ) (t u : Result (Unit {0}) Stuck) (xs ys : List (List Term))
-    → t ≡ first (weighs row) xs → u ≡ first (weighs row) ys → and_then t u ≡ first (weighs row) (xs ++ ys)
-both_stop row t u xs ys one two =
-    ap (λ v. and_then v u) one ∙ ap (λ v. and_then (first (weighs row) xs) v) two ∙ sym (first-append (weighs row) xs ys)
+  -- a violation is never found to be none, and the other way round, whatever passes
+  pub violated_found : (answer : Result Bool Stuck) → answer ≡ violation q r → Violates q r
+      → (answer ≡ Ok true) ⊎ ((stuck : Stuck) × (answer ≡ Err stuck))
+  violated_found (Ok true) is violates = inl refl
+  violated_found (Ok false) is violates = absurd ((kept_law (sym is)).1 violates)
+  violated_found (Err stuck) is violates = inr (stuck, refl)
 
-condition_stops : (row : ℕ) (r : Run) (at : Rows) (c : Condition)
-    → stop_of (outcome row (condition_claim (in_run r) (flow_count r 0) at c)) ≡ first (weighs row) (comparisons_of r at c)
-condition_stops row r at always = refl
-condition_stops row r at never = refl
-condition_stops row r at (leaf (compares left rel right)) = stop_related rel (weighed row (comparison_terms (in_run r) (flow_count r 0) at left right)).sum
-condition_stops row r at (opposite c) = stop_not (outcome row (condition_claim (in_run r) (flow_count r 0) at c)) ∙ condition_stops row r at c
-condition_stops row r at end_of_all = refl
-condition_stops row r at (all_of c rest) =
-    stop_both (outcome row (condition_claim (in_run r) (flow_count r 0) at c)) (outcome row (condition_claim (in_run r) (flow_count r 0) at rest))
-    ∙ both_stop row _ _ (comparisons_of r at c) (comparisons_of r at rest) (condition_stops row r at c) (condition_stops row r at rest)
-condition_stops row r at end_of_any = refl
-condition_stops row r at (any_of c rest) =
-    stop_either (outcome row (condition_claim (in_run r) (flow_count r 0) at c)) (outcome row (condition_claim (in_run r) (flow_count r 0) at rest))
-    ∙ both_stop row _ _ (comparisons_of r at c) (comparisons_of r at rest) (condition_stops row r at c) (condition_stops row r at rest)
-
-violation_stops : (q : Question) (r : Run)
-    → stop_of (violation q r) ≡ first (weighs (rows_of q r).last)
-    (comparisons_of r (rows_of q r) (assumptions q) ++ comparisons_of r (rows_of q r) (condition_of q.require))
-unfolding violation
-violation_stops q r =
-    let at : Rows = rows_of q r in
-    let row : ℕ = at.last in
-    let one : Result Bool Stuck = outcome row (condition_claim (in_run r) (flow_count r 0) at (assumptions q)) in
-    let two : Result Bool Stuck = outcome row (condition_claim (in_run r) (flow_count r 0) at (condition_of q.require)) in
-    stop_both one (not_outcome two)
-    ∙ both_stop row (stop_of one) (stop_of (not_outcome two)) (comparisons_of r at (assumptions q)) (comparisons_of r at (condition_of q.require))
-    (condition_stops row r at (assumptions q)) (stop_not two ∙ condition_stops row r at (condition_of q.require))
-
-pub stuck_law : (q : Question) (r : Run) (stuck : Stuck) → violation q r ≡ Err stuck → IsFirstPassing q r stuck
-stuck_law q r stuck is =
-    first_is_first (weighs (rows_of q r).last)
-    (comparisons_of r (rows_of q r) (assumptions q) ++ comparisons_of r (rows_of q r) (condition_of q.require)) stuck
-    (sym (violation_stops q r) ∙ ap stop_of is)
-
-pub complete_law : (q : Question) (r : Run) (answer : Result Bool Stuck) → violation q r ≡ answer → Violates q r
-    → ((stuck : Stuck) → IsFirstPassing q r stuck → ⊥) → answer ≡ Ok true
-complete_law q r (Err stuck) is violates nothing = absurd (nothing stuck (stuck_law q r stuck is))
-complete_law q r (Ok true) is violates nothing = refl
-complete_law q r (Ok false) is violates nothing = absurd (kept_law q r is violates)
+  pub kept_found : (answer : Result Bool Stuck) → answer ≡ violation q r → (Violates q r → ⊥)
+      → (answer ≡ Ok false) ⊎ ((stuck : Stuck) × (answer ≡ Err stuck))
+  kept_found (Ok true) is keeps = absurd (keeps (violated_law (sym is)).1)
+  kept_found (Ok false) is keeps = inl refl
+  kept_found (Err stuck) is keeps = inr (stuck, refl)

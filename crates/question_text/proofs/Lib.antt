@@ -1,8 +1,10 @@
 pub mod Columns
 pub mod ExampleLimits
 pub mod Laws
+pub mod QuestionColumns
 pub mod Readiness
 pub mod Scales
+mod ScaleLaws
 pub mod SeenLaws
 pub mod Sums
 mod FoundLoop

@@ -32,7 +32,7 @@ use Rattle.question_text.specs.Texts.{HasText, IsTextOf, sections_written, wante
 use Rattle.question_text.proofs.CanonLaws.{canon, canon_short, condition_is_written, means_same}
 use Rattle.question_text.proofs.MeaningLaws.{means_it, meant_again}
 use Rattle.question_text.proofs.Respelling.{cond_by, condition_again, same_numbers}
-use Rattle.question_text.proofs.TextLaws.{given, given_again}
+use Rattle.question_text.proofs.TextLaws.{controller_scale, given, given_again}
 
 module _ (states : List State) (s : Setting) where
   -- ---- the canonical text of the same
@@ -295,8 +295,8 @@ printed_text c controller q (bytes, is) =
     let again = lines_printed lines.lines (sections_by_name c.states s t) lines.spelled lines.from in
     let u : Sections = again.read in
     let same = are_same c.states t u again.same in
-    let read = given_again c controller t q (question_within bytes t is.spelled) is.unbroken is.resolved in
-    let found = given c controller u q (question_within (printed (sections_by_name c.states s t)) u again.spelled) (read_same c t u q same read) in
+    let read = given_again c (controller_scale c controller) t q (question_within bytes t is.spelled) is.unbroken is.resolved in
+    let found = given c (controller_scale c controller) u q (question_within (printed (sections_by_name c.states s t)) u again.spelled) (read_same c t u q same read) in
     subst (λ (v : Sections). IsTextOf c (printed v) q) (sym (written_is c.states t q is.resolved.setting is.resolved.assumes is.resolved.require))
     (record { sections = u; spelled = again.spelled; unbroken = found.unbroken; resolved = found.resolved })
 

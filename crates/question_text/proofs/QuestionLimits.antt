@@ -20,7 +20,7 @@ use Rattle.ctrl_types.specs.Denominators.{IsScale}
 use Rattle.ctrl_types.specs.Statements.{coefs, condition_numbers}
 use Rattle.ctrl_types.specs.declared.controllers.Controller.{Controller}
 use Rattle.ctrl_types.specs.declared.controllers.State.{State}
-use Rattle.ctrl_types.proofs.DenominatorLaws.{multiple}
+use Rattle.ctrl_types.proofs.DenominatorLaws.{least_over}
 use Rattle.question_syntax.specs.Limits.{IsPlacedExpr, IsPlacedTerm}
 use Rattle.question_syntax.specs.Sections.{Sections, Wanted}
 use Rattle.question_text.specs.Conditions.{Condition, condition_of, conjunction}
@@ -206,7 +206,7 @@ seen_within c t q scale set few assumed required read =
     let each : All IsNum nums =
     All-append IsNum before (condition_numbers t.require.cond) (All-append IsNum (path_numbers c s) (all_numbers c s t.assumes) (path_nums c s set) (all_nums c s t.assumes assumed)) (condition_nums c t.require.cond required) in
     let total = read.require.total in
-    let cleared : All (λ n. den_of n ∣ read.den) nums = subst (λ (m : ℕ). All (λ n. den_of n ∣ m) nums) (sym total.is) (multiple nums (unsigned_abs c.den) scale.from each).of_nums in
+    let cleared : All (λ n. den_of n ∣ read.den) nums = subst (λ (m : ℕ). All (λ n. den_of n ∣ m) nums) (sym total.is) (least_over nums (unsigned_abs c.den) scale.from each).of_nums in
     let parts = split c.states s (λ n. den_of n ∣ read.den) before (condition_numbers t.require.cond) cleared in
     let lines = split c.states s (λ n. den_of n ∣ read.den) (path_numbers c s) (all_numbers c s t.assumes) parts.front in
     let assumes = all_within c.states s read.den total.scale c t.assumes q.assumes refl assumed read.assumes.mean lines.back in

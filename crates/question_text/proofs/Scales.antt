@@ -1,18 +1,22 @@
 -- Scales grow from denominator to denominator, and divide each common multiple of them.
-use Rattle.std.proofs.Common.{◌≡◌, ℕ, ◌+◌, ◌<◌, ◌≤◌, List, [], ◌∷◌, get_or, length, drop, sym, ◌∙◌, ap, arith}
+use Rattle.std.proofs.Common.{◌≡◌, ℕ, ◌+◌, ◌<◌, ◌≤◌, List, [], ◌∷◌, get_or, length, drop, map, sym, ◌∙◌, ap, subst, arith}
 use Rattle.std.specs.Prelude.{All}
 use Rattle.std.specs.Int.{◌∣◌}
-use Rattle.std.proofs.lemmas.Nat.Gcd.{dvd_trans, dvd_refl}
+use Rattle.std.proofs.lemmas.Nat.Gcd.{dvd_trans}
 use Rattle.std.proofs.Math.Nat.{one-dvd}
 use Rattle.std.proofs.lemmas.List.{drop_more}
-use Rattle.std.proofs.lemmas.List.Elements.{All-nil, All-cons, All-head, All-tail, All-get_or, All-drop}
+use Rattle.std.proofs.lemmas.List.Elements.{All-nil, All-cons, All-head, All-tail, All-get_or, All-drop, All-map}
+use Rattle.std.proofs.lemmas.List.Folds.{fold-map}
 use Rattle.weighing.specs.Scaled.{IsNum, common, den_of}
+use Rattle.weighing.specs.declared.scales.Num.{Num}
+use Rattle.ctrl_types.specs.Denominators.{IsLeastOver}
+use Rattle.ctrl_types.proofs.DenominatorLaws.{least_over}
 use Rattle.run_rows.specs.declared.rows.Run.{Run}
 use Rattle.ctrl_meaning.proofs.Scales.{is_common}
 use Rattle.question_text.specs.declared.names.Rows.{Rows}
 use Rattle.question_text.specs.declared.conditions.QTerm.{QTerm}
 use Rattle.question_text.specs.declared.conditions.QLin.{QLin}
-use Rattle.question_text.specs.Expressions.{AreCleared, CanTake, Divides, HasNum, IsLeastScale, scale_of_two, scale_with}
+use Rattle.question_text.specs.Expressions.{AreCleared, CanTake, HasNum, IsLeastScale, scale_of_two, scale_with}
 
 pub numbers_of : (r : Run) (at : Rows) (ts : List QTerm) → All (CanTake r at) ts → All HasNum ts
 numbers_of r at ts each = λ k d inside. (each k d inside).coef_in
@@ -49,18 +53,23 @@ record IsScale (s : ℕ) (ts : List QTerm) : Type 0 where
   of_terms : AreCleared (scale_with s ts) ts
   least : (m : ℕ) → s ∣ m → AreCleared m ts → scale_with s ts ∣ m
 
+abbrev coef_of : QTerm → Num
+coef_of t = t.coef
+
+each_term : (P : Num → Type 0) (ts : List QTerm) → All P (map coef_of ts) → All (λ t. P t.coef) ts
+each_term P [] each = All-nil (λ t. P (coef_of t))
+each_term P (t ∷ ts) each =
+    All-cons (λ t. P (coef_of t)) t ts (All-head P t.coef (map coef_of ts) each) (each_term P ts (All-tail P t.coef (map coef_of ts) each))
+
 is_scale : (s : ℕ) (ts : List QTerm) → 1 ≤ s → All HasNum ts → IsScale s ts
-is_scale s [] from each =
-    record { some = from; of_start = dvd_refl s; of_terms = All-nil (Divides s); least = λ m start cleared. start }
-is_scale s (t ∷ ts) from each =
-    let here = is_common s t.coef from (All-head HasNum t ts each) in
-    let rest = is_scale (common s t.coef) ts here.some (All-tail HasNum t ts each) in
+is_scale s ts from each =
+    let over : IsLeastOver s (map coef_of ts) (scale_with s ts) =
+    subst (IsLeastOver s (map coef_of ts)) (fold-map common coef_of s ts) (least_over (map coef_of ts) s from (All-map IsNum coef_of ts each)) in
     record {
-      some = rest.some;
-      of_start = dvd_trans s here.of_scale rest.of_start;
-      of_terms = All-cons (Divides (scale_with (common s t.coef) ts)) t ts (dvd_trans (den_of t.coef) here.of_den rest.of_start) rest.of_terms;
-      least = λ m start cleared.
-          rest.least m (here.least m start (All-head (Divides m) t ts cleared)) (All-tail (Divides m) t ts cleared);
+      some = omega (arith, scale_grows s ts from each);
+      of_start = over.of_start;
+      of_terms = each_term (λ n. den_of n ∣ scale_with s ts) ts over.of_nums;
+      least = λ m start cleared. over.least m start (All-map (λ n. den_of n ∣ m) coef_of ts cleared);
     }
 
 cleared_more : (m n : ℕ) (ts : List QTerm) → m ∣ n → AreCleared m ts → AreCleared n ts

@@ -2,7 +2,7 @@
 -- claims of a run depends on the question only as it is seen.
 use Rattle.run_rows.specs.Runs.{flow_count}
 use Rattle.claims.specs.Subjects.{in_run}
-use Rattle.std.proofs.Common.{◌≡◌, ℕ, Bool, List, [], Result, Ok, Some, map, inl, inr, ap, subst}
+use Rattle.std.proofs.Common.{◌≡◌, ℕ, Bool, List, [], Result, Ok, Some, map, inl, inr, refl, ap, subst}
 use Rattle.std.specs.Prelude.{All}
 use Rattle.whole.specs.declared.answers.Refusal.{Refusal}
 use Rattle.whole.specs.declared.answers.Stuck.{Stuck}
@@ -30,29 +30,23 @@ use Rattle.question_text.specs.declared.questions.Question.{Question}
 abbrev Judge : Type 0
 Judge = Setting → Statement → Result (Unit {0}) Refusal
 
-module _ (c d : Controller) (same : controller_seen c ≡ controller_seen d) where
-  pub states_same : c.states ≡ d.states
-  states_same = ap (λ (x : SeenController). x.states) same
-
-  judged_same : judged c ≡ judged d
-  unfolding judged passes_limit
-  judged_same = ap (λ (x : SeenController). judged (unruled x)) same
-
+-- what of a controller tells a question's texts: its states, and which statements it breaks
+module _ (c d : Controller) (states_are : c.states ≡ d.states) (judged_are : judged c ≡ judged d) where
   unbroken_same : (s : Sections) → IsUnbroken c s → IsUnbroken d s
-  unbroken_same s unbroken = subst (λ (judge : Judge). All (λ x. judge s.setting x ≡ Ok tt) (statements s)) judged_same unbroken
+  unbroken_same s unbroken = subst (λ (judge : Judge). All (λ x. judge s.setting x ≡ Ok tt) (statements s)) judged_are unbroken
 
   broken_same : (s : Sections) (r : Refusal) → IsFirstBroken c s r → IsFirstBroken d s r
-  broken_same s r broken = subst (λ (judge : Judge). IsFirst (judge s.setting) (statements s) r) judged_same broken
+  broken_same s r broken = subst (λ (judge : Judge). IsFirst (judge s.setting) (statements s) r) judged_are broken
 
   resolved_same : (s : Sections) (q : SeenQuestion) → Resolves c s q → Resolves d s q
   resolved_same s q is = record {
     setting = is.setting;
-    assumes = subst (λ (states : List State). each_found (meant states s.setting) (map (λ (w : Wanted). w.cond) s.assumes) ≡ Some q.assumes) states_same is.assumes;
-    require = subst (λ (states : List State). meant states s.setting s.require.cond ≡ Some q.require) states_same is.require;
+    assumes = subst (λ (states : List State). each_found (meant states s.setting) (map (λ (w : Wanted). w.cond) s.assumes) ≡ Some q.assumes) states_are is.assumes;
+    require = subst (λ (states : List State). meant states s.setting s.require.cond ≡ Some q.require) states_are is.require;
   }
 
-  pub text_same : (bytes : List ℕ) (q : SeenQuestion) → IsTextOf c bytes q → IsTextOf d bytes q
-  text_same bytes q is = record {
+  pub text_by : (bytes : List ℕ) (q : SeenQuestion) → IsTextOf c bytes q → IsTextOf d bytes q
+  text_by bytes q is = record {
     sections = is.sections;
     spelled = is.spelled;
     unbroken = unbroken_same is.sections is.unbroken;
@@ -62,9 +56,29 @@ module _ (c d : Controller) (same : controller_seen c ≡ controller_seen d) whe
   breaks_same : (bytes : List ℕ) (r : Refusal) → BreaksFirst c bytes r → BreaksFirst d bytes r
   breaks_same bytes r is = record { sections = is.sections; spelled = is.spelled; broken = broken_same is.sections r is.broken }
 
+  pub refused_by : (bytes : List ℕ) (r : Refusal) → IsRefused c bytes r → IsRefused d bytes r
+  refused_by bytes r (inl refused) = inl refused
+  refused_by bytes r (inr breaks) = inr (breaks_same bytes r breaks)
+
+-- controllers that are seen the same
+module _ (c d : Controller) (same : controller_seen c ≡ controller_seen d) where
+  pub states_same : c.states ≡ d.states
+  states_same = ap (λ (x : SeenController). x.states) same
+
+  judged_same : judged c ≡ judged d
+  unfolding judged passes_limit
+  judged_same = ap (λ (x : SeenController). judged (unruled x)) same
+
+  pub text_same : (bytes : List ℕ) (q : SeenQuestion) → IsTextOf c bytes q → IsTextOf d bytes q
+  text_same = text_by c d states_same judged_same
+
   pub refused_same : (bytes : List ℕ) (r : Refusal) → IsRefused c bytes r → IsRefused d bytes r
-  refused_same bytes r (inl refused) = inl refused
-  refused_same bytes r (inr breaks) = inr (breaks_same bytes r breaks)
+  refused_same = refused_by c d states_same judged_same
+
+-- a controller without its rules
+pub judged_unruled : (c : Controller) → judged c ≡ judged (unruled (controller_seen c))
+unfolding judged passes_limit
+judged_unruled c = refl
 
 -- ---- questions
 

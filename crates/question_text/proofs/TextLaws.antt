@@ -7,8 +7,8 @@ use Rattle.text_lines.specs.Steps.{Fails}
 use Rattle.whole.specs.declared.answers.ReadFault.{ReadFault}
 use Rattle.whole.specs.declared.answers.ReadFault.TheVariants.{Refused, NoMemory}
 use Rattle.whole.specs.declared.answers.Refusal.{Refusal}
-use Rattle.weighing.specs.First.{IsFirst, and_then, first}
-use Rattle.weighing.proofs.Events.{each_passed, first-append, first_is_first}
+use Rattle.weighing.specs.First.{first}
+use Rattle.weighing.proofs.Events.{all_passed, each_passed, first_is, first_is_first}
 use Rattle.path_server.specs.declared.settings.Setting.{Setting}
 use Rattle.ctrl_syntax.specs.Seen.{GivesSeenUnless}
 use Rattle.ctrl_types.specs.Denominators.{IsScale}
@@ -33,18 +33,7 @@ use Rattle.question_text.specs.Texts.{IsRefused, IsTextOf}
 use Rattle.question_text.proofs.LineAgreement.{EachAskedWanted, IsRead, text_agrees}
 use Rattle.question_text.proofs.QuestionLimits.{IsSeenQuestion, question_within as question_limits, seen_within}
 
--- ---- the first of a list
-
-pub all_passed : {A E : Type 0} (test : A → Result (Unit {0}) E) (xs : List A) → All (λ x. test x ≡ Ok tt) xs → first test xs ≡ Ok tt
-all_passed test [] each = refl
-all_passed test (x ∷ xs) each =
-    ap (λ t. and_then t (first test xs)) (All-head (λ y. test y ≡ Ok tt) x xs each) ∙ all_passed test xs (All-tail (λ y. test y ≡ Ok tt) x xs each)
-
-pub first_again : {A E : Type 0} (test : A → Result (Unit {0}) E) (xs : List A) (e : E) → IsFirst test xs e → first test xs ≡ Err e
-first_again test xs e is =
-    ap (first test) is.parts ∙ first-append test is.before (is.stop ∷ is.after)
-    ∙ ap (λ t. and_then t (first test (is.stop ∷ is.after))) (all_passed test is.before is.passed)
-    ∙ ap (λ t. and_then t (first test is.after)) is.answer
+-- ---- equal answers
 
 some_is : {X : Type 0} (x y : X) → Some x ≡ Some y → x ≡ y
 some_is x y e = cc
@@ -87,13 +76,13 @@ same_question c t p q one two =
     let require : p.require ≡ q.require = some_is p.require q.require (sym one.require ∙ two.require) in
     ap (λ (x : Setting). seen x p.assumes p.require) settings ∙ ap (λ (x : List Condition). seen q.setting x p.require) assumes ∙ ap (seen q.setting q.assumes) require
 
-module _ (c : Controller) (controller : IsController c) where
-  scale_of : IsScale (unsigned_abs c.den)
-  scale_of =
-      let from = controller.den_from in
-      let to = controller.den_to in
-      record { from = omega (arith, ints); to = omega (arith, ints) }
+pub controller_scale : (c : Controller) → IsController c → IsScale (unsigned_abs c.den)
+controller_scale c controller =
+    let from = controller.den_from in
+    let to = controller.den_to in
+    record { from = omega (arith, ints); to = omega (arith, ints) }
 
+module _ (c : Controller) (scale_of : IsScale (unsigned_abs c.den)) where
   asked_lines : (s : Setting) (ws : List Wanted) → All IsWanted ws → EachAskedWanted c s ws
   asked_lines s [] each = tt
   asked_lines s (w ∷ ws) each = let here = All-head IsWanted w ws each in ((here.each_expr, here.no_delay), asked_lines s ws (All-tail IsWanted w ws each))
@@ -145,9 +134,9 @@ module _ (c : Controller) (controller : IsController c) where
   broken_again t r is first_broken = by (resolved_by c t) (first (judged c t.setting) (statements t)) (agrees_on t is) refl refl
     where
       by : (s : Result SeenQuestion Refusal) (u : Result (Unit {0}) Refusal) → Agrees (IsRead c t) s u → resolved_by c t ≡ s → first (judged c t.setting) (statements t) ≡ u → s ≡ Err r
-      by _ _ (fine x read) p passed = absurd (not_stopped r (sym passed ∙ first_again (judged c t.setting) (statements t) r first_broken))
+      by _ _ (fine x read) p passed = absurd (not_stopped r (sym passed ∙ first_is (judged c t.setting) (statements t) r first_broken))
       by _ _ (stops d) p stopped =
-          let same : d ≡ r = stopped_same d r (sym stopped ∙ first_again (judged c t.setting) (statements t) r first_broken) in
+          let same : d ≡ r = stopped_same d r (sym stopped ∙ first_is (judged c t.setting) (statements t) r first_broken) in
           ap (λ (x : Refusal). Err x) same
 
   -- ---- what a call gives behind the syntax of a text

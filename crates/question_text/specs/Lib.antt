@@ -4,6 +4,7 @@ pub mod Expressions
 pub mod Limits
 pub mod Violation
 pub mod Meaning
+pub mod Claims
 pub mod Example
 pub mod Naming
 pub mod Resolving

@@ -13,6 +13,7 @@ use Rattle.path_server.specs.declared.settings.Setting.{Setting}
 use Rattle.condition_syntax.specs.Trees as written
 use Rattle.condition_syntax.specs.declared.expressions.Expr.{Expr}
 use Rattle.condition_syntax.specs.declared.expressions.ETerm.{ETerm}
+use Rattle.ctrl_types.specs.Denominators.{IsLeastOver}
 use Rattle.ctrl_types.specs.Names.{is_kind}
 use Rattle.ctrl_types.specs.Statements.{any_comparison, condition_numbers}
 use Rattle.ctrl_types.specs.declared.controllers.Controller.{Controller}
@@ -105,9 +106,17 @@ abbrev pub in_condition : (Expr → Expr → Bool) → Saying → Bool
 in_condition test (path ns line) = false
 in_condition test (wanted w) = any_comparison test w.cond
 
+-- what the denominators up to this line come to, begun with the controller's
+abbrev pub line_scale : Controller → Statement → ℕ
+line_scale c x = fold common (unsigned_abs c.den) (x.before ++ numbers x.says)
+
+-- the number is the least common multiple of the controller's denominator and of those up to this line
+abbrev pub IsLineScale : Controller → Statement → ℕ → Type 0
+IsLineScale c x m = IsLeastOver (unsigned_abs c.den) (x.before ++ numbers x.says) m
+
 -- the least common multiple of the controller's denominators and of those up to this line is past the limit
 unfoldable pub passes_limit : Controller → Statement → Bool
-passes_limit c x = nat_lt 1000000 (fold common (unsigned_abs c.den) (x.before ++ numbers x.says))
+passes_limit c x = nat_lt 1000000 (line_scale c x)
 
 -- a line is refused where it breaks the rule of this number
 abbrev pub against : Bool → ℕ → ℕ → Result (Unit {0}) Refusal

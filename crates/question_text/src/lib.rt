@@ -13,6 +13,7 @@ mod names;
 mod naming;
 mod questions;
 mod refusals;
+mod scaling;
 mod telling;
 #[cfg(test)]
 mod tests;
@@ -25,10 +26,13 @@ mod violation;
 mod writing;
 
 pub use conditions::{Of, QCond, QLin, QTerm};
+pub use names::Rows;
 pub use question_syntax::read_setting;
 pub use questions::Question;
+pub use scaling::comparisons_hold_at_each_scale;
 pub use telling::{
     kinds_are_mixed_by_two_terms, names_stand_by_their_cases, questions_are_told_apart,
+    scales_are_least,
 };
 pub use texts::{print, read};
 pub use violation::violates;

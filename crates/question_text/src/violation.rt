@@ -1,12 +1,12 @@
 //! Whether a run meets all assumptions of a question and breaks its requirement.
 ghost use Rattle.claims.specs.Subjects.{in_run};
-ghost use Rattle.std.specs.Prelude.{◌≡◌, Ok, Err, true, false};
+ghost use Rattle.std.specs.Prelude.{◌≡◌, ◌↔◌, ◌⊎◌, Ok, Err, true, false};
 ghost use Rattle.run_rows.specs.Runs.{IsRun, flow_count};
 ghost use Rattle.weighing.specs.Claim.{outcome};
 ghost use Rattle.whole.specs.declared.answers.Stuck.{Stuck};
 ghost use Rattle.question_text.specs.Expressions.{CanWeigh, condition_claim};
 ghost use Rattle.question_text.specs.Limits.{CanAsk};
-ghost use Rattle.question_text.specs.Meaning.{IsFirstPassing, Violates};
+ghost use Rattle.question_text.specs.Meaning.{IsFirstPassing, NothingPasses, Violates};
 ghost use Rattle.question_text.specs.Violation.{assumptions, violation};
 
 use crate::names::Rows;
@@ -22,10 +22,13 @@ use whole::Stuck;
 pub fn violates(question: &Question, run: &Run) -> Result<bool, Stuck>
     requires { CanAsk question.now run.now }
     ensures exact { result ≡ violation question.now run.now }
-    ensures violated { result ≡ Ok true → Violates question.now run.now }
-    ensures kept { result ≡ Ok false → Violates question.now run.now → ⊥ }
-    ensures stuck { (stuck : Stuck) → result ≡ Err stuck → IsFirstPassing question.now run.now stuck }
-    ensures complete { Violates question.now run.now → ((stuck : Stuck) → IsFirstPassing question.now run.now stuck → ⊥) → result ≡ Ok true }
+    ensures violated { (result ≡ Ok true) ↔ (NothingPasses question.now run.now × Violates question.now run.now) }
+    ensures kept { (result ≡ Ok false) ↔ (NothingPasses question.now run.now × (Violates question.now run.now → ⊥)) }
+    ensures stuck { (stuck : Stuck) → (result ≡ Err stuck) ↔ IsFirstPassing question.now run.now stuck }
+
+    // A run that violates the question is never found to keep it, nor the other way round.
+    ensures violated_found { Violates question.now run.now → (result ≡ Ok true) ⊎ ((stuck : Stuck) × (result ≡ Err stuck)) }
+    ensures kept_found { (Violates question.now run.now → ⊥) → (result ≡ Ok false) ⊎ ((stuck : Stuck) × (result ≡ Err stuck)) }
 {
     examine(question, run)
 }

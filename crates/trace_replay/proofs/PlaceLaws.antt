@@ -1,32 +1,37 @@
 -- What is asked at each place of a replay: what its weighing says, and that all of it together makes a run of the controller.
-use Rattle.std.proofs.Common.{◌≡◌, ℕ, ◌+◌, ◌==◌, ◌<◌, ◌≤◌, inl, inr, true, false, if◌then◌else◌, Ok, Err, [], ◌++◌, map, length, refl, ◌∙◌, ap, subst, arith}
+use Rattle.std.proofs.Common.{◌≡◌, ℕ, ◌+◌, ◌==◌, ◌<◌, ◌≤◌, inl, inr, Bool, true, false, if◌then◌else◌, Result, Ok, Err, [], ◌++◌, map, length, refl, sym, ◌∙◌, ap, subst, arith}
 use Rattle.std.specs.Prelude.{All, nat_lt}
 use Rattle.std.proofs.lemmas.Bool.{cases_lt}
 use Rattle.std.proofs.lemmas.Bool.Decides.{nat_tests}
 use Rattle.std.proofs.lemmas.List.Elements.{All-append, All-cons, All-map, All-nil, All-same}
 use Rattle.whole.specs.declared.answers.Stuck.{Stuck}
+use Rattle.weighing.specs.Asked.{IsFirstStuck, NonePasses}
+use Rattle.weighing.specs.Claim.{Claim}
 use Rattle.weighing.specs.First.{below}
+use Rattle.weighing.specs.Passing.{IsFirstPassing, NothingPasses}
+use Rattle.weighing.proofs.Claims.{never_stuck, outcome_answers}
 use Rattle.run_rows.specs.Runs.{Bounded}
 use Rattle.run_rows.specs.declared.rows.Run.{Run}
 use Rattle.path_server.specs.Limits.{IsSetting}
 use Rattle.path_server.specs.Places.{places_of_row as rules_of_row}
 use Rattle.path_server.specs.declared.settings.Setting.{Setting}
-use Rattle.path_server.proofs.AdmissionLaws.{all_below, all_flat_map, breaks_at, holds_on_row, rule_holds}
+use Rattle.path_server.proofs.AdmissionLaws.{all_below, all_flat_map, holds_on_row, weighs_at as rule_weighs}
 use Rattle.ctrl_types.specs.Limits.{IsController}
 use Rattle.ctrl_types.specs.declared.controllers.Controller.{Controller}
 use Rattle.ctrl_meaning.specs.Limits.{FitsBoth, HasShape, IsControlled}
-use Rattle.ctrl_meaning.specs.Meaning.{IsStuckInOpening, IsStuckInStep, StateAgrees, Steps, OpensWithin}
-use Rattle.ctrl_meaning.specs.Opening.{opening, opening_row}
-use Rattle.ctrl_meaning.specs.Steps.{sending, step, stepping}
+use Rattle.ctrl_meaning.specs.Meaning.{IsStuckInStep, NothingPassesInStep, StateAgrees}
+use Rattle.ctrl_meaning.specs.Opening.{opening, opening_row, range_claim}
+use Rattle.ctrl_meaning.specs.Steps.{guard_claim, sending, sent, sent_claim, state_claim, step, stepping}
 use Rattle.ctrl_meaning.specs.declared.opening.OpeningHolds.{OpeningHolds}
 use Rattle.ctrl_meaning.specs.declared.opening.OpeningHolds.TheVariants.{Yes as Within, State as Outside, Wide as OpeningWide}
 use Rattle.ctrl_meaning.specs.declared.step.StepHolds.{StepHolds}
 use Rattle.ctrl_meaning.specs.declared.step.StepHolds.TheVariants.{Yes, State, Arrival, StepWide, SendWide}
 use Rattle.ctrl_meaning.proofs.OpeningLaws as openings
-use Rattle.ctrl_meaning.proofs.StepLaws.{IsReadyRow, arrival_law, not_sends_law, one_fires, ready_row, send_wide_law, sends_law, state_law, step_wide_law, yes_law}
+use Rattle.ctrl_meaning.proofs.StepLaws.{IsReadyRow, arrival_law, not_sends_law, one_fires, ready_row, send_sticks_again, send_sticks_law, send_wide_law, sends_law, state_law, step_wide_again, step_wide_law, yes_law}
 use Rattle.question_text.specs.declared.questions.Question.{Question}
 use Rattle.trace_replay.specs.Replaying.{Place, fits, obeys, opens, steps, sends, are_stepped, are_within, each_flow, places, places_of_flows, places_of_row, places_of_rows, weighed_at}
-use Rattle.trace_replay.specs.RunOf.{HoldsAt, IsStuckAt, RunOf}
+use Rattle.ctrl_meaning.specs.RunOf.{RunOf}
+use Rattle.trace_replay.specs.Meaning.{HoldsAt, IsStuckAt, NothingPassesAt}
 
 -- the row and the flow can be read
 pub record IsReadable (c : Controller) (s : Setting) (i f : ℕ) : Type 0 where
@@ -54,88 +59,122 @@ ready c q r i f given at =
 
 -- ---- what a weighing says
 
-abbrev HasStepped : Controller → Setting → Run → ℕ → ℕ → Type 0
-HasStepped c s r i f = (rule : ℕ) × Steps c r (stepping s i f) rule
+-- what comes of weighing what is asked at a place: it holds, or it doesn't, or a weighing passes
+pub record WeighsAt (c : Controller) (q : Question) (r : Run) (place : Place) : Type 0 where
+  pub holds : weighed_at c q r place ≡ Ok true → NothingPassesAt c q r place × HoldsAt c q r place
+  pub holding : NothingPassesAt c q r place → HoldsAt c q r place → weighed_at c q r place ≡ Ok true
+  pub fails : weighed_at c q r place ≡ Ok false → NothingPassesAt c q r place × (HoldsAt c q r place → ⊥)
+  pub failing : NothingPassesAt c q r place → (HoldsAt c q r place → ⊥) → weighed_at c q r place ≡ Ok false
+  pub sticks : (stuck : Stuck) → weighed_at c q r place ≡ Err stuck → IsStuckAt c q r place stuck
+  pub sticking : (stuck : Stuck) → IsStuckAt c q r place stuck → weighed_at c q r place ≡ Err stuck
 
-within_holds : (c : Controller) (s : Setting) (r : Run) (f : ℕ) (answer : OpeningHolds) → opening c s r f ≡ answer → are_within answer ≡ Ok true
-    → OpensWithin c s r f
-within_holds c s r f Within is holds = openings.yes_law c s r f is
-within_holds c s r f (Outside j) is holds = absurd (cc)
-within_holds c s r f (OpeningWide stuck) is holds = absurd (cc)
+abbrev Meant : Controller → Question → Run → Place → Result Bool Stuck → Type 0
+Meant c q r place (Ok true) = NothingPassesAt c q r place × HoldsAt c q r place
+Meant c q r place (Ok false) = NothingPassesAt c q r place × (HoldsAt c q r place → ⊥)
+Meant c q r place (Err stuck) = IsStuckAt c q r place stuck
 
-within_fails : (c : Controller) (s : Setting) (r : Run) (f : ℕ) (answer : OpeningHolds) → opening c s r f ≡ answer → are_within answer ≡ Ok false
-    → OpensWithin c s r f → ⊥
-within_fails c s r f Within is fails opens_within = cc
-within_fails c s r f (Outside j) is fails opens_within =
-    let one = openings.state_law c s r f j is in one.out (opens_within j one.within)
-within_fails c s r f (OpeningWide stuck) is fails opens_within = cc
+-- from what its answer means, and that a weighing that is stuck is the answer and isn't one in which nothing passes
+weighs_by : (c : Controller) (q : Question) (r : Run) (place : Place) (o : Result Bool Stuck) → weighed_at c q r place ≡ o → Meant c q r place o
+    → ((stuck : Stuck) → IsStuckAt c q r place stuck → weighed_at c q r place ≡ Err stuck)
+    → ((stuck : Stuck) → IsStuckAt c q r place stuck → NothingPassesAt c q r place → ⊥)
+    → WeighsAt c q r place
+weighs_by c q r place o is meant again quiet = record {
+  holds = λ e. subst (Meant c q r place) (sym is ∙ e) meant;
+  holding = λ small holds. is ∙ holding o meant small holds;
+  fails = λ e. subst (Meant c q r place) (sym is ∙ e) meant;
+  failing = λ small not. is ∙ failing o meant small not;
+  sticks = λ stuck e. subst (Meant c q r place) (sym is ∙ e) meant;
+  sticking = again;
+}
+  where
+    holding : (o : Result Bool Stuck) → Meant c q r place o → NothingPassesAt c q r place → HoldsAt c q r place → o ≡ Ok true
+    holding (Ok true) meant small holds = refl
+    holding (Ok false) meant small holds = absurd (meant.1 holds)
+    holding (Err stuck) meant small holds = absurd (quiet stuck meant small)
 
-within_stuck : (c : Controller) (s : Setting) (r : Run) (f : ℕ) (stuck : Stuck) (answer : OpeningHolds) → opening c s r f ≡ answer
-    → are_within answer ≡ Err stuck → IsStuckInOpening c s r f stuck
-within_stuck c s r f stuck Within is stops = absurd (cc)
-within_stuck c s r f stuck (Outside j) is stops = absurd (cc)
-within_stuck c s r f stuck (OpeningWide other) is stops =
-    let same : other ≡ stuck = cc in openings.wide_law c s r f stuck (is ∙ ap OpeningWide same)
+    failing : (o : Result Bool Stuck) → Meant c q r place o → NothingPassesAt c q r place → (HoldsAt c q r place → ⊥) → o ≡ Ok false
+    failing (Ok true) meant small not = absurd (not meant.1)
+    failing (Ok false) meant small not = refl
+    failing (Err stuck) meant small not = absurd (quiet stuck meant small)
 
-stepped_holds : (c : Controller) (s : Setting) (r : Run) (i f : ℕ) → IsReadyRow c s r i f → (answer : StepHolds) → step c s r i f ≡ answer
-    → are_stepped answer ≡ Ok true → HasStepped c s r i f
-stepped_holds c s r i f at (Yes rule) is holds = (rule, (yes_law c s r i f rule at is).steps)
-stepped_holds c s r i f at (State j) is holds = absurd (cc)
-stepped_holds c s r i f at Arrival is holds = let other = arrival_law c s r i f at is in (other.rule, other.steps)
-stepped_holds c s r i f at (StepWide stuck) is holds = absurd (cc)
-stepped_holds c s r i f at (SendWide stuck) is holds = let other = send_wide_law c s r i f stuck at is in (other.rule, other.steps)
+-- what is stuck isn't what nothing passes in
+stuck_passes : (row : ℕ) (claim : Claim) (stuck : Stuck) → IsFirstPassing row claim stuck → NothingPasses claim → ⊥
+stuck_passes row claim stuck one small = never_stuck row claim stuck small (((outcome_answers row claim).stuck stuck).1 one)
 
-stepped_fails : (c : Controller) (s : Setting) (r : Run) (i f : ℕ) → IsReadyRow c s r i f → (answer : StepHolds) → step c s r i f ≡ answer
-    → are_stepped answer ≡ Ok false → HasStepped c s r i f → ⊥
-stepped_fails c s r i f at (Yes rule) is fails has = cc
-stepped_fails c s r i f at (State j) is fails has =
-    let other = state_law c s r i f j at is in
-    let same : has.0 ≡ other.rule = one_fires c r (stepping s i f) has.0 other.rule has.1.fires other.fires in
-    other.differs (subst (λ n. StateAgrees c r (stepping s i f) n j) same (has.1.agrees j other.within))
-stepped_fails c s r i f at Arrival is fails has = cc
-stepped_fails c s r i f at (StepWide stuck) is fails has = cc
-stepped_fails c s r i f at (SendWide stuck) is fails has = cc
+one_passes : (row : ℕ) (claim : ℕ → Claim) (n : ℕ) (stuck : Stuck) → IsFirstStuck row claim n stuck → NonePasses claim n → ⊥
+one_passes row claim n stuck one small = stuck_passes row (claim one.at) stuck one.here (small one.at one.within)
 
-stepped_stuck : (c : Controller) (s : Setting) (r : Run) (i f : ℕ) (stuck : Stuck) → IsReadyRow c s r i f → (answer : StepHolds)
-    → step c s r i f ≡ answer → are_stepped answer ≡ Err stuck → IsStuckInStep c s r i f stuck
-stepped_stuck c s r i f stuck at (Yes rule) is stops = absurd (cc)
-stepped_stuck c s r i f stuck at (State j) is stops = absurd (cc)
-stepped_stuck c s r i f stuck at Arrival is stops = absurd (cc)
-stepped_stuck c s r i f stuck at (StepWide other) is stops =
-    let same : other ≡ stuck = cc in step_wide_law c s r i f stuck at (is ∙ ap StepWide same)
-stepped_stuck c s r i f stuck at (SendWide other) is stops = absurd (cc)
+module _ (c : Controller) (q : Question) (r : Run) where
+  opening_meant : (f : ℕ) (answer : OpeningHolds) → opening c q.setting r f ≡ answer → Meant c q r (opens f) (are_within answer)
+  opening_meant f Within is = openings.yes_law c q.setting r f is
+  opening_meant f (Outside j) is =
+      let one = openings.state_law c q.setting r f j is in (one.weighed, λ within. one.out (within j one.within))
+  opening_meant f (OpeningWide stuck) is = openings.wide_law c q.setting r f stuck is
 
-pub holds_law : (c : Controller) (q : Question) (r : Run) → IsGiven c q r → (place : Place) → IsPlace c q place
-    → weighed_at c q r place ≡ Ok true → HoldsAt c q r place
-unfolding weighed_at
-holds_law c q r given fits is holds = absurd is
-holds_law c q r given (obeys p) is holds = rule_holds q.setting.path r given.setting_in.path p holds
-holds_law c q r given (opens f) is holds = within_holds c q.setting r f (opening c q.setting r f) refl holds
-holds_law c q r given (steps i f) is holds =
-    stepped_holds c q.setting r i f (ready c q r i f given is) (step c q.setting r i f) refl holds
-holds_law c q r given (sends i f) is holds =
-    let at = ready c q r i f given is in sends_law c r (sending q.setting i f) at.some at.sending_in holds
+  opening_weighs : (f : ℕ) → WeighsAt c q r (opens f)
+  unfolding weighed_at
+  opening_weighs f =
+      weighs_by c q r (opens f) (are_within (opening c q.setting r f)) refl (opening_meant f (opening c q.setting r f) refl)
+      (λ stuck one. ap are_within (openings.wide_again c q.setting r f stuck one))
+      (λ stuck one small. one_passes (opening_row c q.setting) (range_claim c r (opening_row c q.setting) f) (length c.states) stuck one small)
 
-pub breaks_law : (c : Controller) (q : Question) (r : Run) → IsGiven c q r → (place : Place) → IsPlace c q place
-    → weighed_at c q r place ≡ Ok false → HoldsAt c q r place → ⊥
-unfolding weighed_at
-breaks_law c q r given fits is fails = absurd is
-breaks_law c q r given (obeys p) is fails = breaks_at q.setting.path r given.setting_in.path p.rule p.row p.flow fails
-breaks_law c q r given (opens f) is fails = within_fails c q.setting r f (opening c q.setting r f) refl fails
-breaks_law c q r given (steps i f) is fails =
-    stepped_fails c q.setting r i f (ready c q r i f given is) (step c q.setting r i f) refl fails
-breaks_law c q r given (sends i f) is fails =
-    let at = ready c q r i f given is in not_sends_law c r (sending q.setting i f) at.some at.sending_in fails
+  step_meant : (i f : ℕ) → IsReadyRow c q.setting r i f → (answer : StepHolds) → step c q.setting r i f ≡ answer
+      → Meant c q r (steps i f) (are_stepped answer)
+  step_meant i f at (Yes rule) is = let both = yes_law c q.setting r i f at rule is in (both.1.in_step, (rule, both.0.steps))
+  step_meant i f at (State j) is =
+      let other = state_law c q.setting r i f at j is in (
+        other.weighed,
+        λ has.
+            let same = one_fires c r (stepping q.setting i f) has.0 other.rule has.1.fires other.fires in
+            other.differs (subst (λ n. StateAgrees c r (stepping q.setting i f) n j) same (has.1.agrees j other.within)),
+      )
+  step_meant i f at Arrival is = let other = arrival_law c q.setting r i f at is in (other.weighed.in_step, (other.rule, other.steps))
+  step_meant i f at (StepWide stuck) is = step_wide_law c q.setting r i f at stuck is
+  step_meant i f at (SendWide stuck) is = let other = send_wide_law c q.setting r i f at stuck is in (other.weighed, (other.rule, other.steps))
 
-pub stuck_law : (c : Controller) (q : Question) (r : Run) (stuck : Stuck) → IsGiven c q r → (place : Place) → IsPlace c q place
-    → weighed_at c q r place ≡ Err stuck → IsStuckAt c q r place stuck
-unfolding weighed_at
-stuck_law c q r stuck given fits is stops = absurd is
-stuck_law c q r stuck given (obeys p) is stops = stops
-stuck_law c q r stuck given (opens f) is stops = within_stuck c q.setting r f stuck (opening c q.setting r f) refl stops
-stuck_law c q r stuck given (steps i f) is stops =
-    stepped_stuck c q.setting r i f stuck (ready c q r i f given is) (step c q.setting r i f) refl stops
-stuck_law c q r stuck given (sends i f) is stops = stops
+  step_quiet : (i f : ℕ) (stuck : Stuck) → IsStuckInStep c q.setting r i f stuck → NothingPassesInStep c r (stepping q.setting i f) → ⊥
+  step_quiet i f stuck one small =
+      elim one [
+        | inl guards ↦ one_passes i (guard_claim c r (stepping q.setting i f)) (length c.rules) stuck guards small.guards
+        | inr later ↦
+            one_passes i (state_claim c r (stepping q.setting i f) later.0) (length c.states) stuck later.3 (small.states later.0 later.1)
+      ]
+
+  step_weighs : (i f : ℕ) → IsReadyRow c q.setting r i f → WeighsAt c q r (steps i f)
+  unfolding weighed_at
+  step_weighs i f at =
+      weighs_by c q r (steps i f) (are_stepped (step c q.setting r i f)) refl (step_meant i f at (step c q.setting r i f) refl)
+      (λ stuck one. ap are_stepped (step_wide_again c q.setting r i f at stuck one)) (step_quiet i f)
+
+  send_meant : (i f : ℕ) → IsReadyRow c q.setting r i f → (answer : Result Bool Stuck) → sent c r (sending q.setting i f) ≡ answer
+      → Meant c q r (sends i f) answer
+  send_meant i f at (Ok true) is = sends_law c r (sending q.setting i f) at.some at.sending_in is
+  send_meant i f at (Ok false) is = not_sends_law c r (sending q.setting i f) at.some at.sending_in is
+  send_meant i f at (Err stuck) is = send_sticks_law c r (sending q.setting i f) stuck is
+
+  send_weighs : (i f : ℕ) → IsReadyRow c q.setting r i f → WeighsAt c q r (sends i f)
+  unfolding weighed_at
+  send_weighs i f at =
+      weighs_by c q r (sends i f) (sent c r (sending q.setting i f)) refl (send_meant i f at (sent c r (sending q.setting i f)) refl)
+      (λ stuck one. send_sticks_again c r (sending q.setting i f) stuck one)
+      (λ stuck one small. stuck_passes i (sent_claim c r (sending q.setting i f)) stuck one small)
+
+  pub weighs_at : IsGiven c q r → (place : Place) → IsPlace c q place → WeighsAt c q r place
+  unfolding weighed_at
+  weighs_at given fits is = absurd is
+  weighs_at given (obeys p) is =
+      let rule = rule_weighs q.setting.path r given.setting_in.path p in
+      record {
+        holds = rule.holds;
+        holding = rule.holding;
+        fails = rule.fails;
+        failing = rule.failing;
+        sticks = rule.sticks;
+        sticking = rule.sticking;
+      }
+  weighs_at given (opens f) is = opening_weighs f
+  weighs_at given (steps i f) is = step_weighs i f (ready c q r i f given is)
+  weighs_at given (sends i f) is = send_weighs i f (ready c q r i f given is)
 
 -- ---- what holds at every place
 
@@ -222,15 +261,15 @@ places_are c q r shaped =
     row_holds (IsPlace c q) c q r i shaped inside (λ k d _. tt) (λ f from to. tt) (λ f at. at) (λ f at. at)))
 
 -- a run of the controller holds what is asked everywhere
-held_on_rows : (c : Controller) (q : Question) (r : Run) → RunOf c q r → All (HoldsAt c q r) (places_of_rows c q r)
+held_on_rows : (c : Controller) (q : Question) (r : Run) → RunOf c q.setting r → All (HoldsAt c q r) (places_of_rows c q r)
 unfolding places_of_rows
 held_on_rows c q r run_of =
     all_flat_map (HoldsAt c q r) (places_of_row c q r) (below (length r.rows))
     (all_below (λ i. All (HoldsAt c q r) (places_of_row c q r i)) (length r.rows) (λ i inside.
-    row_holds (HoldsAt c q r) c q r i run_of.shaped inside (holds_on_row q.setting.path r i run_of.admitted inside) run_of.opened
-    (λ f at. let one = run_of.stepped i f at.controlled at.from at.to in (one.0, one.1.steps))
-    (λ f at. let one = run_of.stepped i f at.controlled at.from at.to in one.1.sends)))
+    row_holds (HoldsAt c q r) c q r i run_of.free.shaped inside (holds_on_row q.setting.path r i run_of.free.admitted inside) run_of.opened
+    (λ f at. let one = run_of.free.stepped i at.controlled f at.from at.to in (one.0, one.1.steps))
+    (λ f at. let one = run_of.free.stepped i at.controlled f at.from at.to in one.1.sends)))
 
-pub held_everywhere : (c : Controller) (q : Question) (r : Run) → Bounded r → RunOf c q r → All (HoldsAt c q r) (places c q r)
+pub held_everywhere : (c : Controller) (q : Question) (r : Run) → Bounded r → RunOf c q.setting r → All (HoldsAt c q r) (places c q r)
 held_everywhere c q r bounded run_of =
-    All-cons (HoldsAt c q r) fits (places_of_rows c q r) (record { shaped = run_of.shaped; bounded = bounded }) (held_on_rows c q r run_of)
+    All-cons (HoldsAt c q r) fits (places_of_rows c q r) (record { shaped = run_of.free.shaped; bounded = bounded }) (held_on_rows c q r run_of)

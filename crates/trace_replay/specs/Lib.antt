@@ -1,3 +1,3 @@
 pub mod Replaying
-pub mod RunOf
+pub mod Meaning
 pub mod Example

@@ -1,5 +1,5 @@
 //! Whether a run is one of a controller's flows on an admitted path, and whether it violates the question.
-ghost use Rattle.std.specs.Prelude.{◌≡◌, ◌<◌, ◌≤◌, ◌++◌, ℕ, MatchResult, length, map};
+ghost use Rattle.std.specs.Prelude.{◌≡◌, ◌↔◌, ◌⊎◌, ◌<◌, ◌≤◌, ◌++◌, ℕ, MatchResult, length, map};
 ghost use Rattle.weighing.specs.First.{first};
 ghost use Rattle.whole.specs.declared.answers.Stuck.{Stuck};
 ghost use Rattle.run_rows.specs.Runs.{Bounded};
@@ -11,7 +11,8 @@ ghost use Rattle.question_text.specs.Limits.{CanAsk, IsQuestion};
 ghost use Rattle.question_text.specs.Meaning.{Violates};
 ghost use Rattle.question_text.specs.Violation.{violation};
 ghost use Rattle.trace_replay.specs.Replaying.{each_flow, found, obeys, of_question, opens, places_of_flows, places_of_row, places_of_rows, replaying, sends, steps};
-ghost use Rattle.trace_replay.specs.RunOf.{IsFirstBroken, IsFirstWide, NothingPasses, RunOf};
+ghost use Rattle.ctrl_meaning.specs.RunOf.{RunOf};
+ghost use Rattle.trace_replay.specs.Meaning.{IsFirstBroken, IsFirstWide, NothingPasses};
 ghost use Rattle.trace_replay.specs.declared.replaying.RunRule.{RunRule};
 
 use ctrl_meaning::{OpeningHolds, StepHolds, opening_holds, step_holds};
@@ -58,17 +59,27 @@ pub fn replay(controller: &Controller, question: &Question, run: &Run) -> Replay
     requires controller_in { IsController controller.now }
     requires question_in { IsQuestion (length controller.now.states) question.now }
     ensures exact { result ≡ replaying controller.now question.now run.now }
-    ensures violating { result ≡ Replayed.Violating → RunOf controller.now question.now run.now × Violates question.now run.now }
-    ensures keeps { result ≡ Replayed.Keeps → RunOf controller.now question.now run.now × (Violates question.now run.now → ⊥) }
-    ensures broken { (rule : RunRule) (row flow : ℕ) → result ≡ Replayed.Broken rule row flow
-        → IsFirstBroken controller.now question.now run.now rule row flow }
-    ensures wide { (stuck : Stuck) → result ≡ Replayed.Wide stuck → IsFirstWide controller.now question.now run.now stuck }
+    ensures violating { result ≡ Replayed.Violating → RunOf controller.now question.now.setting run.now × Violates question.now run.now }
+    ensures keeps { result ≡ Replayed.Keeps → RunOf controller.now question.now.setting run.now × (Violates question.now run.now → ⊥) }
+    ensures broken { (rule : RunRule) (row flow : ℕ) → (result ≡ Replayed.Broken rule row flow)
+        ↔ IsFirstBroken controller.now question.now run.now rule row flow }
+    ensures wide { (stuck : Stuck) → (result ≡ Replayed.Wide stuck) ↔ IsFirstWide controller.now question.now run.now stuck }
+
+    // Where an answer is about the question, no weighing passes.
+    ensures violating_weighed { result ≡ Replayed.Violating → Bounded run.now × NothingPasses controller.now question.now run.now }
+    ensures keeps_weighed { result ≡ Replayed.Keeps → Bounded run.now × NothingPasses controller.now question.now run.now }
 
     // A run of the controller's flows is found to be one, unless a weighing passes.
-    ensures violation_found { RunOf controller.now question.now run.now → Bounded run.now → NothingPasses controller.now question.now run.now
+    ensures violation_found { RunOf controller.now question.now.setting run.now → Bounded run.now → NothingPasses controller.now question.now run.now
         → Violates question.now run.now → result ≡ Replayed.Violating }
-    ensures keeping_found { RunOf controller.now question.now run.now → Bounded run.now → NothingPasses controller.now question.now run.now
+    ensures keeping_found { RunOf controller.now question.now.setting run.now → Bounded run.now → NothingPasses controller.now question.now run.now
         → (Violates question.now run.now → ⊥) → result ≡ Replayed.Keeps }
+
+    // Whatever passes, it is never found to break a rule, nor a violation to be none, nor the other way round.
+    ensures violation_answered { RunOf controller.now question.now.setting run.now → Bounded run.now → Violates question.now run.now
+        → (result ≡ Replayed.Violating) ⊎ ((stuck : Stuck) × (result ≡ Replayed.Wide stuck)) }
+    ensures keeping_answered { RunOf controller.now question.now.setting run.now → Bounded run.now → (Violates question.now run.now → ⊥)
+        → (result ≡ Replayed.Keeps) ⊎ ((stuck : Stuck) × (result ≡ Replayed.Wide stuck)) }
 {
     examine(controller, question, run)
 }

@@ -148,3 +148,16 @@ first_error wanted question (suc n) e is =
         here = here.2;
       }
     ]
+
+-- where all questions are answered, something is found, or nothing
+pub asked_is : {E : Type 0} (wanted : Bool) (question : ℕ → Result Bool E) (n : ℕ)
+    → AllAnswered question n → (found : Option ℕ) × (asked wanted question n ≡ Ok found)
+asked_is wanted question zero answered = (None, asked_none wanted question)
+asked_is {E} wanted question (suc n) answered =
+    let before = asked_is wanted question n (λ k less. answered k (omega arith)) in
+    let here = answered n (omega arith) in (
+      noted before.0 n (is_wanted wanted here.0),
+      asked_suc wanted question n
+          ∙ ap (λ t. with_answer wanted t n (question n)) before.1
+          ∙ ap (λ t. let r : Result (Option ℕ) E = Ok before.0 in with_answer wanted r n t) here.1,
+    )

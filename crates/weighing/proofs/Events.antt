@@ -5,7 +5,7 @@ use Rattle.std.specs.Prelude.{All}
 use Rattle.std.proofs.Math.Seq.{drop-cons}
 use Rattle.std.proofs.lemmas.List.{take-append-drop}
 use Rattle.std.proofs.lemmas.Bool.{cases_lt}
-use Rattle.std.proofs.lemmas.List.Elements.{All-nil, All-cons}
+use Rattle.std.proofs.lemmas.List.Elements.{All-cons, All-head, All-nil, All-tail}
 use Rattle.weighing.specs.First.{and_then, below, first, IsFirst}
 
 pub first-append : {A E : Type 0} (test : A → Result (Unit {0}) E) (xs ys : List A)
@@ -73,6 +73,14 @@ each_passed {A} {E} test (x ∷ xs) none =
     let split = cases_ok (test x) (first test xs) none in
     All-cons Passed x xs split.0 (each_passed test xs split.1)
 
+-- where each is passed, no test stops
+pub all_passed : {A E : Type 0} (test : A → Result (Unit {0}) E) (xs : List A)
+    → All (λ x. test x ≡ Ok tt) xs → first test xs ≡ Ok tt
+all_passed test [] each = refl
+all_passed {A} {E} test (x ∷ xs) each =
+    let Passed : A → Type 0 = λ y. test y ≡ Ok tt in
+    ap (λ t. and_then t (first test xs)) (All-head Passed x xs each) ∙ all_passed test xs (All-tail Passed x xs each)
+
 -- what the first answer is, is the answer of the first that isn't passed
 pub first_is_first : {A E : Type 0} (test : A → Result (Unit {0}) E) (xs : List A) (e : E)
     → first test xs ≡ Err e → IsFirst test xs e
@@ -98,6 +106,15 @@ first_is_first {A} {E} test (x ∷ xs) e stops =
             answer = rest.answer;
           }
     ]
+
+-- the first answer is that of the first that isn't passed
+pub first_is : {A E : Type 0} (test : A → Result (Unit {0}) E) (xs : List A) (e : E)
+    → IsFirst test xs e → first test xs ≡ Err e
+first_is test xs e one =
+    ap (first test) one.parts
+    ∙ first-append test one.before (one.stop ∷ one.after)
+    ∙ ap (λ t. and_then t (first test (one.stop ∷ one.after))) (all_passed test one.before one.passed)
+    ∙ ap (λ t. and_then t (first test one.after)) one.answer
 
 -- an event at place i, before which there is none, is the first of the list
 pub first_stops_at : {A E : Type 0} (test : A → Result (Unit {0}) E) (e : E) (xs : List A) (i : ℕ) (d : A) → i < length xs

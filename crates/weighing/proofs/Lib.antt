@@ -1,4 +1,5 @@
 pub mod Events
 pub mod Claims
 pub mod Asking
+pub mod AskedClaims
 pub mod Scaling

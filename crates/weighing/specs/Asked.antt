@@ -1,5 +1,9 @@
 -- Questions that are asked in order, all of them before any of the answers counts.
-use Rattle.std.specs.Prelude.{◌≡◌, ℕ, zero, suc, ◌<◌, Bool, true, false, not, Option, Some, None, Result, Ok, Err}
+use Rattle.std.specs.Prelude.{◌≡◌, ◌↔◌, ℕ, zero, suc, ◌<◌, Bool, true, false, not, Option, Some, None, Result, Ok, Err}
+use Rattle.whole.specs.declared.answers.Stuck.{Stuck}
+use Rattle.condition_tree.specs.Trees.{Says}
+use Rattle.weighing.specs.Claim.{Claim}
+use Rattle.weighing.specs.Passing.{IsFirstPassing, NothingPasses}
 
 -- whether a truth is the wanted one
 abbrev pub is_wanted : Bool → Bool → Bool
@@ -43,3 +47,29 @@ pub record IsFirstError {E : Type 0} (question : ℕ → Result Bool E) (n : ℕ
   pub within : at < n
   pub before : AllAnswered question at
   pub here : question at ≡ Err e
+
+-- ---- where each question is a claim that is weighed on one row
+
+-- no product and no sum of the claims below n passes
+abbrev pub NonePasses : (ℕ → Claim) → ℕ → Type 0
+NonePasses claim n = (k : ℕ) → k < n → NothingPasses (claim k)
+
+-- the first product or sum of the claims below n, in order, that passes
+pub record IsFirstStuck (row : ℕ) (claim : ℕ → Claim) (n : ℕ) (stuck : Stuck) : Type 0 where
+  pub at : ℕ
+  pub within : at < n
+  pub before : NonePasses claim at
+  pub here : IsFirstPassing row (claim at) stuck
+
+-- the fact at k is the first of those below n whose truth is the wanted one
+pub record IsFirstSaid (wanted : Bool) (fact : ℕ → Type 0) (n k : ℕ) : Type 0 where
+  pub within : k < n
+  pub before : (j : ℕ) → j < k → Says (not wanted) (fact j)
+  pub here : Says wanted (fact k)
+
+-- what is found of facts, each weighed as a claim, all of them before any counts: the first whose truth is the wanted one,
+-- or the first product or sum that passes
+pub record Tells (wanted : Bool) (row : ℕ) (claim : ℕ → Claim) (fact : ℕ → Type 0) (n : ℕ) (found : Result (Option ℕ) Stuck) : Type 0 where
+  pub none : (found ≡ Ok None) ↔ (NonePasses claim n × ((k : ℕ) → k < n → Says (not wanted) (fact k)))
+  pub some : (k : ℕ) → (found ≡ Ok (Some k)) ↔ (NonePasses claim n × IsFirstSaid wanted fact n k)
+  pub stuck : (stuck : Stuck) → (found ≡ Err stuck) ↔ IsFirstStuck row claim n stuck

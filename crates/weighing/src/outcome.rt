@@ -1,21 +1,26 @@
-ghost use Rattle.std.specs.Prelude.{◌≡◌};
-ghost use Rattle.weighing.specs.Claim.{both_outcomes, compare, either_outcome, not_outcome, outcome};
+ghost use Rattle.std.specs.Prelude.{◌≡◌, ℕ};
+ghost use Rattle.condition_tree.specs.Trees.{all_of, any_of, opposite};
+ghost use Rattle.weighing.specs.Claim.{Claim, both_outcomes, compare, either_outcome, not_outcome, outcome};
+ghost use Rattle.weighing.specs.Passing.{Answers};
 ghost use Rattle.weighing.specs.Weighed.{EachWithin};
 
 use crate::weighings::{Rel5, Term, Weighing};
 use whole::Stuck;
 
-/// Whether the sum of the terms stands so to zero, or the operation at which its weighing is stuck.
+/// Whether the sum of the terms stands so to zero, or the operation at which its weighing is stuck: the first product or
+/// sum, over unbounded numbers, that passes `2^127 - 1` in size.
 pub fn compare(row: u32, terms: &[Term], rel: Rel5) -> Result<bool, Stuck>
     requires { EachWithin terms.now }
-    ensures { result ≡ outcome row (compare terms.now rel) }
+    ensures exact { result ≡ outcome row (compare terms.now rel) }
+    ensures means { Answers row (compare terms.now rel) result }
 {
     Weighing::new(row).plus_all(terms).stands(rel)
 }
 
 /// Whether both comparisons hold, or the first of them that is stuck.
 pub fn both(first: Result<bool, Stuck>, second: Result<bool, Stuck>) -> Result<bool, Stuck>
-    ensures { result ≡ both_outcomes first second }
+    ensures exact { result ≡ both_outcomes first second }
+    ensures means { (row : ℕ) (c d : Claim) → Answers row c first → Answers row d second → Answers row (all_of c d) result }
 {
     let first = first?;
     let second = second?;
@@ -24,7 +29,8 @@ pub fn both(first: Result<bool, Stuck>, second: Result<bool, Stuck>) -> Result<b
 
 /// Whether one of the comparisons holds, or the first of them that is stuck.
 pub fn either(first: Result<bool, Stuck>, second: Result<bool, Stuck>) -> Result<bool, Stuck>
-    ensures { result ≡ either_outcome first second }
+    ensures exact { result ≡ either_outcome first second }
+    ensures means { (row : ℕ) (c d : Claim) → Answers row c first → Answers row d second → Answers row (any_of c d) result }
 {
     let first = first?;
     let second = second?;
@@ -33,7 +39,8 @@ pub fn either(first: Result<bool, Stuck>, second: Result<bool, Stuck>) -> Result
 
 /// Whether the comparison doesn't hold, or the operation at which it is stuck.
 pub fn not(inner: Result<bool, Stuck>) -> Result<bool, Stuck>
-    ensures { result ≡ not_outcome inner }
+    ensures exact { result ≡ not_outcome inner }
+    ensures means { (row : ℕ) (c : Claim) → Answers row c inner → Answers row (opposite c) result }
 {
     let inner = inner?;
     Ok(!inner)

@@ -1,6 +1,7 @@
-ghost use Rattle.std.specs.Prelude.{◌≡◌, ◌≤◌, ◌<◌, ◌^◌, ◌≤ℤ◌, pos, unsigned_abs};
-ghost use Rattle.whole.specs.Numbers.{lcm_of};
-ghost use Rattle.weighing.specs.Scaled.{IsNum, common, scaled};
+ghost use Rattle.std.specs.Prelude.{◌≡◌, ◌≤◌, ◌<◌, ◌^◌, ◌≤ℤ◌, ◌*ℤ◌, pos, unsigned_abs};
+ghost use Rattle.std.specs.Int.{◌∣◌};
+ghost use Rattle.whole.specs.Numbers.{IsLcm, lcm_of};
+ghost use Rattle.weighing.specs.Scaled.{IsNum, common, den_of, scaled, signed};
 
 use whole::lcm;
 
@@ -24,7 +25,8 @@ pub fn with_denominator(scale: u32, number: Num) -> u32
     requires scale_from { 1 ≤ scale }
     requires number_in { IsNum number }
     requires least_to { common scale number ≤ 1000000 }
-    ensures { result ≡ common scale number }
+    ensures exact { result ≡ common scale number }
+    ensures least { IsLcm scale (den_of number) result }
 {
     lcm(i128::from(scale), number.den).unwrap_or(0) as u32
 }
@@ -37,6 +39,7 @@ impl Num {
         requires scale_to { scale ≤ 1000000 }
         ensures value { result ≡ scaled side scale self }
         ensures size { unsigned_abs result ≤ 1000000000000 }
+        ensures whole { den_of self ∣ scale → result *ℤ self.den ≡ signed side (self.num *ℤ pos scale) }
     {
         let times = u128::from(scale) / self.den.unsigned_abs();
         let whole = self.num * times as i128;

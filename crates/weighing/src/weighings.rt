@@ -1,6 +1,9 @@
-ghost use Rattle.std.specs.Prelude.{◌≡◌};
+ghost use Rattle.std.specs.Prelude.{◌≡◌, ℤ, Bool, Ok, Err};
 ghost use Rattle.whole.specs.Numbers.{IsWithin, fma};
-ghost use Rattle.weighing.specs.Weighed.{EachWithin, added, more, related, start, stuck_at, weighed_from};
+ghost use Rattle.whole.specs.declared.answers.Stuck.{Stuck};
+ghost use Rattle.condition_tree.specs.Trees.{Says};
+ghost use Rattle.weighing.specs.Passing.{Sums};
+ghost use Rattle.weighing.specs.Weighed.{EachWithin, Stands, added, more, related, start, stuck_at, weighed_from};
 
 use std::marker::Model;
 use whole::{Op, Pair, Place, Stuck, checked_fma};
@@ -64,10 +67,12 @@ impl Weighing {
         Weighing { row: self.row, sum }
     }
 
-    /// The sum with these terms, in their order.
+    /// The sum with these terms, in their order. A weighing that is stuck stays as it is.
     pub fn plus_all(self, terms: &[Term]) -> Weighing
         requires { EachWithin terms.now }
-        ensures { result ≡ weighed_from self terms.now }
+        ensures exact { result ≡ weighed_from self terms.now }
+        ensures means { (sum : ℤ) → self.sum ≡ Ok sum → Sums self.row sum terms.now result.sum }
+        ensures stuck { (stuck : Stuck) → self.sum ≡ Err stuck → result ≡ self }
     {
         let mut weighing = self;
         for term in terms {
@@ -78,7 +83,10 @@ impl Weighing {
 
     /// Whether the sum stands so to zero, or the operation at which the weighing is stuck.
     pub fn stands(self, rel: Rel5) -> Result<bool, Stuck>
-        ensures { result ≡ related rel self.sum }
+        ensures exact { result ≡ related rel self.sum }
+        ensures means { (sum : ℤ) (b : Bool) → self.sum ≡ Ok sum → result ≡ Ok b → Says b (Stands rel sum) }
+        ensures answered { (sum : ℤ) → self.sum ≡ Ok sum → (b : Bool) × (result ≡ Ok b) }
+        ensures stuck { (stuck : Stuck) → self.sum ≡ Err stuck → result ≡ Err stuck }
     {
         let sum = self.sum?;
         Ok(match rel {

@@ -23,7 +23,7 @@ scale_with-scale-requires-clause-start_from c =
 
 pub returns : goal.returns
 returns c =
-    c.stands.ensures ∙ ap (λ (w : Weight). related c.args.rel w.sum)
+    c.stands.ensures.exact ∙ ap (λ (w : Weight). related c.args.rel w.sum)
     (sides c.args.run.now c.args.at.now c.args.left.now c.args.right.now c.new.result c.plus_lin-left_sum.result c.plus_lin.result
     c.scale_with.result c.scale_with-scale.result c.scale_with.ensures c.scale_with-scale.ensures c.new.ensures
     c.plus_lin-left_sum.ensures c.plus_lin.ensures)

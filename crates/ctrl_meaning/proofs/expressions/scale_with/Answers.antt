@@ -26,6 +26,6 @@ loop-term-preserved c =
     scale_step n c.loop-term.scale c.args.start c.as_slice-term-items.result.now c.loop-term.term-index none c.loop-term-test.true
     (subst (All (IsTerm n)) same c.requires.terms_in) c.loop-term.invariant.1 c.loop-term.invariant.0
     (subst (λ ts. scale_with c.args.start ts ≤ 1000000) same c.requires.least_to) in (
-      ap (λ s. scale_with s (drop (c.loop-term.term-index + 1) c.as_slice-term-items.result.now)) c.with_denominator-scale.ensures ∙ more.next,
-      subst (λ s. 1 ≤ s) (sym c.with_denominator-scale.ensures) more.some,
+      ap (λ s. scale_with s (drop (c.loop-term.term-index + 1) c.as_slice-term-items.result.now)) c.with_denominator-scale.ensures.exact ∙ more.next,
+      subst (λ s. 1 ≤ s) (sym c.with_denominator-scale.ensures.exact) more.some,
     )

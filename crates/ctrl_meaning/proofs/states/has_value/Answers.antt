@@ -31,7 +31,7 @@ valued r at j scale lin k x w0 w1 w2 scale_is k_is x_is begun one two =
 pub returns : goal.returns
 returns c =
     let small : c.scale_with-scale.result ≤ 1000000 = (let e = c.scale_with-scale.ensures in let to = c.requires.set_in.1 in omega (arith, e, to)) in
-    c.stands.ensures
+    c.stands.ensures.exact
     ∙ valued c.args.run.now c.args.at.now c.args.state c.scale_with-scale.result c.args.lin.now c.from.result c.state-here.result
     c.new.result c.plus-start.result c.plus_lin.result c.scale_with-scale.ensures
     (factor_is c.from.result (pos c.scale_with-scale.result) (let e = c.from.ensures in omega (arith, ints)) c.from.ensures)

@@ -1,47 +1,45 @@
-use Rattle.std.proofs.Common.{◌≡◌, ◌∙◌, ap, refl, sym, Result}
+use Rattle.std.proofs.Common.{◌≡◌, ◌⊎◌, ◌∙◌, ap, sym, subst, Result}
 use Rattle.weighing.specs.First.{first}
 use Rattle.run_rows.specs.declared.rows.Run.{Run}
 use Rattle.path_server.specs.Places.{admission, answer, examined, places}
 use Rattle.path_server.specs.declared.settings.Path.{Path}
 use Rattle.path_server.specs.declared.admission.Admit.{Admit}
-use Rattle.path_server.proofs.AdmissionLaws.{admitted_law, broken_law, complete_law, wide_law}
+use Rattle.path_server.specs.declared.admission.Admit.TheVariants.{Yes, Wide}
+use Rattle.whole.specs.declared.answers.Stuck.{Stuck}
+use Rattle.path_server.proofs.AdmissionLaws.{admitted_found_law, admitted_law, broken_found_law, broken_law, complete_law, weighed_law, wide_found_law, wide_law}
 use Rattle.path_server.proofs.admission.admits.Goals as goal
 
 -- the answer to what was found
-exact : (p : Path) (r : Run) (t u : Result (Unit {0}) Admit) → t ≡ first (examined p r) (places r) → t ≡ u → answer u ≡ admission p r
+is_admission : (p : Path) (r : Run) (found : Result (Unit {0}) Admit) (result : Admit) → found ≡ first (examined p r) (places r)
+    → result ≡ answer found → result ≡ admission p r
 unfolding admission
-exact p r t u found is = ap answer (sym is ∙ found)
+is_admission p r found result is answered = answered ∙ ap answer is
 
-pub returns-in-Ok-clause-exact : goal.returns-in-Ok-clause-exact
-returns-in-Ok-clause-exact c = exact c.args.path.now c.args.run.now _ _ c.examine.ensures c.in-Ok.is
+pub returns-clause-exact : goal.returns-clause-exact
+returns-clause-exact c = is_admission c.args.path.now c.args.run.now c.examine.result c.answer.result c.examine.ensures c.answer.ensures
 
-pub returns-in-Ok-clause-admitted : goal.returns-in-Ok-clause-admitted
-returns-in-Ok-clause-admitted c = λ answered.
-    admitted_law c.args.path.now c.args.run.now c.requires.path_in
-    (sym (exact c.args.path.now c.args.run.now _ _ c.examine.ensures c.in-Ok.is))
+pub returns-clause-admitted : goal.returns-clause-admitted
+returns-clause-admitted c = λ answered. admitted_law c.args.path.now c.args.run.now c.requires.path_in (sym (is_admission c.args.path.now c.args.run.now c.examine.result c.answer.result c.examine.ensures c.answer.ensures) ∙ answered)
 
-pub returns-in-Err-clause-exact : goal.returns-in-Err-clause-exact
-returns-in-Err-clause-exact c = exact c.args.path.now c.args.run.now _ _ c.examine.ensures c.in-Err.is
+pub returns-clause-weighed : goal.returns-clause-weighed
+returns-clause-weighed c = λ answered. weighed_law c.args.path.now c.args.run.now c.requires.path_in (sym (is_admission c.args.path.now c.args.run.now c.examine.result c.answer.result c.examine.ensures c.answer.ensures) ∙ answered)
 
-pub returns-in-Err-clause-admitted : goal.returns-in-Err-clause-admitted
-returns-in-Err-clause-admitted c = λ answered.
-    admitted_law c.args.path.now c.args.run.now c.requires.path_in
-    (sym (exact c.args.path.now c.args.run.now _ _ c.examine.ensures c.in-Err.is) ∙ answered)
+pub returns-clause-complete : goal.returns-clause-complete
+returns-clause-complete c = λ admitted small. is_admission c.args.path.now c.args.run.now c.examine.result c.answer.result c.examine.ensures c.answer.ensures ∙ complete_law c.args.path.now c.args.run.now c.requires.path_in admitted small
 
-pub returns-in-Err-clause-broken : goal.returns-in-Err-clause-broken
-returns-in-Err-clause-broken c = λ rule row flow is.
-    broken_law c.args.path.now c.args.run.now rule row flow c.requires.path_in
-    (sym (exact c.args.path.now c.args.run.now _ _ c.examine.ensures c.in-Err.is) ∙ is)
+pub returns-clause-broken : goal.returns-clause-broken
+returns-clause-broken c = λ rule row flow answered. broken_law c.args.path.now c.args.run.now rule row flow c.requires.path_in (sym (is_admission c.args.path.now c.args.run.now c.examine.result c.answer.result c.examine.ensures c.answer.ensures) ∙ answered)
 
-pub returns-in-Err-clause-wide : goal.returns-in-Err-clause-wide
-returns-in-Err-clause-wide c = λ stuck is.
-    wide_law c.args.path.now c.args.run.now stuck c.requires.path_in
-    (sym (exact c.args.path.now c.args.run.now _ _ c.examine.ensures c.in-Err.is) ∙ is)
+pub returns-clause-broken_found : goal.returns-clause-broken_found
+returns-clause-broken_found c = λ rule row flow one. is_admission c.args.path.now c.args.run.now c.examine.result c.answer.result c.examine.ensures c.answer.ensures ∙ broken_found_law c.args.path.now c.args.run.now rule row flow c.requires.path_in one
 
-pub returns-in-Ok-clause-complete : goal.returns-in-Ok-clause-complete
-returns-in-Ok-clause-complete c = λ admitted passing. refl
+pub returns-clause-wide : goal.returns-clause-wide
+returns-clause-wide c = λ stuck answered. wide_law c.args.path.now c.args.run.now stuck c.requires.path_in (sym (is_admission c.args.path.now c.args.run.now c.examine.result c.answer.result c.examine.ensures c.answer.ensures) ∙ answered)
 
-pub returns-in-Err-clause-complete : goal.returns-in-Err-clause-complete
-returns-in-Err-clause-complete c = λ admitted passing.
-    exact c.args.path.now c.args.run.now _ _ c.examine.ensures c.in-Err.is
-    ∙ complete_law c.args.path.now c.args.run.now c.requires.path_in admitted passing
+pub returns-clause-wide_found : goal.returns-clause-wide_found
+returns-clause-wide_found c = λ stuck one. is_admission c.args.path.now c.args.run.now c.examine.result c.answer.result c.examine.ensures c.answer.ensures ∙ wide_found_law c.args.path.now c.args.run.now stuck c.requires.path_in one
+
+pub returns-clause-admitted_found : goal.returns-clause-admitted_found
+returns-clause-admitted_found c = λ admitted.
+    subst (λ a. (a ≡ Yes) ⊎ ((stuck : Stuck) × (a ≡ Wide stuck))) (sym (is_admission c.args.path.now c.args.run.now c.examine.result c.answer.result c.examine.ensures c.answer.ensures))
+    (admitted_found_law c.args.path.now c.args.run.now c.requires.path_in admitted)

@@ -10,7 +10,7 @@ loop-index-preserved c =
     one_more_flow c.args.start c.loop-index.weighing c.plus_all-weighing.result
     (λ f. times c.args.scale.now.unit (arrived c.args.run.now c.args.row f) ∷ times c.args.scale.now.minus (lost c.args.run.now c.args.row f) ∷ [])
     c.loop-index.index c.loop-index.invariant
-    (c.plus_all-weighing.ensures ∙ two_terms c.loop-index.weighing
+    (c.plus_all-weighing.ensures.exact ∙ two_terms c.loop-index.weighing
     c.args.scale.now.unit c.flow-now.result.now.a _ c.args.scale.now.minus c.flow-now.result.now.l _
     (omega (arith, c.requires.scale_in.unit_to)) (c.flow-now.ensures.within c.requires.run_in).bounded.a_in
     (ap (λ (e : FlowRow). e.a) c.flow-now.ensures.value)

@@ -6,6 +6,6 @@ use Rattle.question_text.proofs.expressions.comparison.Goals as goal
 
 pub returns : goal.returns
 returns c =
-    c.stands.ensures ∙ ap (λ (w : Weight). related c.args.rel w.sum)
+    c.stands.ensures.exact ∙ ap (λ (w : Weight). related c.args.rel w.sum)
     (sides c.args.run.now c.args.at.now c.args.left.now c.args.right.now c.new.result c.plus_lin-left_sum.result c.plus_lin.result
     c.scale_of_two-scale.result c.scale_of_two-scale.ensures.exact c.new.ensures c.plus_lin-left_sum.ensures c.plus_lin.ensures)

@@ -30,7 +30,7 @@ comes_to q r n assumed required denied result same one two turned is =
 pub returns : goal.returns
 returns c =
     comes_to c.args.question.now c.args.run.now c.row_count-last.result c.all_assumed-assumed.result c.holds-required.result c.not.result c.both.result
-    c.row_count-last.ensures c.all_assumed-assumed.ensures c.holds-required.ensures c.not.ensures c.both.ensures
+    c.row_count-last.ensures c.all_assumed-assumed.ensures c.holds-required.ensures c.not.ensures.exact c.both.ensures.exact
 
 pub all_assumed-assumed-requires-clause-can : goal.all_assumed-assumed-requires-clause-can
 all_assumed-assumed-requires-clause-can c =

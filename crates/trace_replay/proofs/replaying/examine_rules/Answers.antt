@@ -15,19 +15,19 @@ comes_to : (c : Controller) (q : Question) (r : Run) (i : ℕ) (t u : Result (Un
 comes_to c q r i t u found_is is = sym (rules_found c q r (rules_of_row r i) ∙ ap of_rules (sym found_is ∙ is))
 
 pub returns-in-Ok : goal.returns-in-Ok
-returns-in-Ok c = comes_to c.args.controller.now c.args.question.now c.args.run.now c.args.row _ _ c.examine_row.ensures c.in-Ok.is
+returns-in-Ok c = comes_to c.args.controller.now c.args.question.now c.args.run.now c.args.row _ _ c.examine_row.ensures.exact c.in-Ok.is
 
 pub returns-in-Err-Yes : goal.returns-in-Err-Yes
-returns-in-Err-Yes c = comes_to c.args.controller.now c.args.question.now c.args.run.now c.args.row _ _ c.examine_row.ensures
+returns-in-Err-Yes c = comes_to c.args.controller.now c.args.question.now c.args.run.now c.args.row _ _ c.examine_row.ensures.exact
     (c.in-Err-Yes.is ∙ ap Err c.in-Err-Yes.field-0-is)
 
 pub returns-in-Err-Broken : goal.returns-in-Err-Broken
 returns-in-Err-Broken c =
     ap Err c.broken.ensures
-    ∙ comes_to c.args.controller.now c.args.question.now c.args.run.now c.args.row _ _ c.examine_row.ensures
+    ∙ comes_to c.args.controller.now c.args.question.now c.args.run.now c.args.row _ _ c.examine_row.ensures.exact
     (c.in-Err-Broken.is ∙ ap Err c.in-Err-Broken.field-0-is)
 
 pub returns-in-Err-Wide : goal.returns-in-Err-Wide
 returns-in-Err-Wide c =
-    comes_to c.args.controller.now c.args.question.now c.args.run.now c.args.row _ _ c.examine_row.ensures
+    comes_to c.args.controller.now c.args.question.now c.args.run.now c.args.row _ _ c.examine_row.ensures.exact
     (c.in-Err-Wide.is ∙ ap Err c.in-Err-Wide.field-0-is)

@@ -11,8 +11,8 @@ formed_fits x y (same, small) = subst (FitsSigned w128) (sym same) (fits y (omeg
 returned : (x y : ℤ) → (x ≡ y) × (unsigned_abs y ≤ 72000000000) → to_z w128 (of_z w128 x) ≡ y
 returned x y formed = to_z-of_z w128 x (formed_fits x y formed) ∙ formed.0
 
-returned_small : (x y : ℤ) → (x ≡ y) × (unsigned_abs y ≤ 72000000000) → unsigned_abs (to_z w128 (of_z w128 x)) < 2 ^ 127
-returned_small x y formed = subst (λ z. unsigned_abs z < 2 ^ 127) (sym (returned x y formed)) (omega (arith, formed.1))
+returned_small : (x y : ℤ) → (x ≡ y) × (unsigned_abs y ≤ 72000000000) → unsigned_abs (to_z w128 (of_z w128 x)) ≤ 72000000000
+returned_small x y formed = subst (λ z. unsigned_abs z ≤ 72000000000) (sym (returned x y formed)) (omega (arith, formed.1))
 
 pub overflow_mul-result-2 : goal.overflow_mul-result-2
 overflow_mul-result-2 c =

@@ -1,12 +1,15 @@
 use Rattle.std.proofs.Common.{◌≡◌, ℕ, suc, ◌+◌, ◌<◌, length, List, [], ◌∷◌, get_or, drop, take, ℤ, pos, sym, ◌∙◌, ap, subst, add-one, to_z, of_z}
+use Rattle.std.proofs.lemmas.List.{take_all}
 use Rattle.std.proofs.Math.Seq.{drop-cons, take-suc}
 use Rattle.std.proofs.lemmas.List.Sums.{fold-append}
 use Rattle.std.proofs.lemmas.Int.{to_z-of_z, fits_signed_from_abs}
 use Rattle.std.specs.Int.{w128}
 use Rattle.whole.specs.Numbers.{IsWithin}
+use Rattle.weighing.specs.Passing.{Sums}
 use Rattle.weighing.specs.Weight.{Weight}
 use Rattle.weighing.specs.Weighed.{EachWithin, added, weighed_from}
 use Rattle.weighing.specs.declared.weighings.Term.{Term}
+use Rattle.weighing.proofs.Claims.{stuck_stays, sums_law}
 use Rattle.weighing.proofs.weighings.Weighing.plus_all.Goals as goal
 
 abbrev none : Term
@@ -60,3 +63,18 @@ pub loop-term-preserved : goal.loop-term-preserved
 loop-term-preserved c =
     one_more c.args.self c.loop-term.weighing c.plus-weighing.result c.args.terms.now c.loop-term.term-index c.loop-term-test.true
     c.loop-term.invariant.1 c.loop-term.invariant.0 c.plus-weighing.ensures
+
+pub returns-clause-means : goal.returns-clause-means
+returns-clause-means c =
+    let all : take c.loop-term.term-index c.args.terms.now ≡ c.args.terms.now = take_all c.loop-term.term-index c.args.terms.now c.loop-term-test.false in
+    let is : c.loop-term.weighing ≡ weighed_from c.args.self c.args.terms.now =
+    c.loop-term.invariant.0 ∙ ap (weighed_from c.args.self) all in
+    λ sum so_far.
+    subst (λ (w : Weight). Sums c.args.self.row sum c.args.terms.now w.sum) (sym is)
+    (sums_law c.args.self.row c.args.self.sum c.args.terms.now sum so_far)
+
+pub returns-clause-stuck : goal.returns-clause-stuck
+returns-clause-stuck c =
+    let all : take c.loop-term.term-index c.args.terms.now ≡ c.args.terms.now = take_all c.loop-term.term-index c.args.terms.now c.loop-term-test.false in
+    λ stuck so_far.
+    c.loop-term.invariant.0 ∙ ap (weighed_from c.args.self) all ∙ stuck_stays c.args.self c.args.terms.now stuck so_far
