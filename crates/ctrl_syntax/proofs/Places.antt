@@ -3,7 +3,7 @@ use Rattle.std.proofs.Common.{◌≡◌, ◌≢◌, ℕ, zero, suc, ◌-◌, ◌
 use Rattle.std.specs.Prelude.{codes, nat_le, if◌then◌else◌}
 use Rattle.std.proofs.lemmas.Bool.{leb-true, leb-false}
 use Rattle.text_lines.specs.Steps.{◌>>=◌}
-use Rattle.text_lines.proofs.RefusalLaws.{bind_assoc}
+use Rattle.text_lines.proofs.StepLaws.{bind_assoc}
 use Rattle.whole.specs.declared.answers.Refusal.{Refusal}
 use Rattle.source_text.specs.Shown.{Ahead}
 use Rattle.condition_syntax.specs.Fronts.{says}

@@ -18,7 +18,7 @@ use Rattle.condition_tree.proofs.Trees.{each_leaf_gives}
 use Rattle.condition_syntax.specs.Trees.{Condition, EachExpr, Leaf, LeafExprs, always, never, leaf, compares, delayed, opposite, end_of_all, all_of, end_of_any, any_of}
 use Rattle.condition_syntax.specs.declared.expressions.Expr.{Expr}
 use Rattle.ctrl_types.specs.Statements.{coefs, condition_numbers}
-use Rattle.ctrl_types.specs.Denominators.{IsLeastCommon, IsScale, least_common, with_number, with_numbers}
+use Rattle.ctrl_types.specs.Denominators.{IsLeastCommon, IsLeastOver, IsScale, least_common, with_number, with_numbers}
 
 -- ---- a step
 
@@ -148,35 +148,24 @@ is_joined before nums den is each =
 abbrev Divides : ℕ → Num → Type 0
 Divides m n = den_of n ∣ m
 
--- it is a multiple of the start and of each denominator
-pub record IsMultiple (s : ℕ) (nums : List Num) (l : ℕ) : Type 0 where
-  pub of_start : s ∣ l
-  pub of_nums : All (λ n. den_of n ∣ l) nums
-
-pub multiple : (nums : List Num) (s : ℕ) → 1 ≤ s → All IsNum nums → IsMultiple s nums (fold common s nums)
-multiple [] s from each = record { of_start = dvd_refl s; of_nums = All-nil (Divides s) }
-multiple (n ∷ nums) s from each =
+pub least_over : (nums : List Num) (s : ℕ) → 1 ≤ s → All IsNum nums → IsLeastOver s nums (fold common s nums)
+least_over [] s from each = record { of_start = dvd_refl s; of_nums = All-nil (Divides s); least = λ m start divides. start }
+least_over (n ∷ nums) s from each =
     let next = is_next s n from (All-head IsNum n nums each) in
-    let rest = multiple nums (common s n) next.some (All-tail IsNum n nums each) in
+    let rest = least_over nums (common s n) next.some (All-tail IsNum n nums each) in
     let l : ℕ = fold common (common s n) nums in
     record {
       of_start = dvd_trans s next.least.0 rest.of_start;
       of_nums = All-cons (Divides l) n nums (dvd_trans (den_of n) next.least.1 rest.of_start) rest.of_nums;
+      least = λ m start divides.
+          rest.least m (next.least.2 m start (All-head (Divides m) n nums divides)) (All-tail (Divides m) n nums divides);
     }
-
--- and it divides each such multiple
-least_divides : (nums : List Num) (s m : ℕ) → 1 ≤ s → All IsNum nums → s ∣ m → All (Divides m) nums → fold common s nums ∣ m
-least_divides [] s m from each start divides = start
-least_divides (n ∷ nums) s m from each start divides =
-    let next = is_next s n from (All-head IsNum n nums each) in
-    least_divides nums (common s n) m next.some (All-tail IsNum n nums each) (next.least.2 m start (All-head (Divides m) n nums divides)) (All-tail (Divides m) n nums divides)
 
 pub is_least_common : (nums : List Num) → All IsNum nums → IsLeastCommon nums (least_common nums)
 unfolding least_common
-is_least_common nums each = record {
-  common = (multiple nums 1 (omega arith) each).of_nums;
-  least = λ m divides. least_divides nums 1 m (omega arith) each (one-dvd m) divides;
-}
+is_least_common nums each =
+    let all = least_over nums 1 (omega arith) each in
+    record { common = all.of_nums; least = λ m divides. all.least m (one-dvd m) divides }
 
 -- ---- the numbers of a condition
 

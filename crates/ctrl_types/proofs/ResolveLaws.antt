@@ -1,5 +1,5 @@
 -- The clauses of resolving, from what is read and what is asked.
-use Rattle.std.proofs.Common.{◌≡◌, ℕ, List, ◌⊎◌, inl, inr, Result, Ok, Err, refl, subst}
+use Rattle.std.proofs.Common.{◌≡◌, ℕ, unsigned_abs, List, ◌⊎◌, inl, inr, Result, Ok, Err, refl, sym, ap, subst}
 use Rattle.std.specs.Prelude.{IfOk, OnOk, IsErrOf, IsOkUnless}
 use Rattle.weighing.specs.First.{first}
 use Rattle.whole.specs.declared.answers.ReadFault.{ReadFault}
@@ -10,6 +10,7 @@ use Rattle.ctrl_syntax.proofs.LimitLaws.{sections_within}
 use Rattle.ctrl_syntax.specs.Limits.{AreSectionsWithin}
 use Rattle.ctrl_syntax.specs.Sections.{Sections}
 use Rattle.ctrl_types.specs.declared.controllers.Controller.{Controller}
+use Rattle.ctrl_types.specs.Denominators.{IsScale}
 use Rattle.ctrl_types.specs.Limits.{IsController}
 use Rattle.ctrl_types.specs.Resolved.{RefusesUnless, Resolves, SeenResolves}
 use Rattle.ctrl_types.specs.Resolving.{GivesSeenUnless, SeenController, controller_by, controller_seen}
@@ -40,11 +41,11 @@ module _ (sections : Sections) (is : AreSectionsWithin sections) where
   refused_is r e = agrees_err r (text_agrees sections is) e
 
   -- where no statement breaks a rule, there is a controller
-  pub some_is : IsUnbroken sections → (c : SeenController) × SeenResolves sections c
-  some_is whole = by (controller_by sections) (first (judged sections.states) (statements sections)) (text_agrees sections is) (unbroken_again sections whole)
+  some_read : IsUnbroken sections → (c : SeenController) × IsRead sections c
+  some_read whole = by (controller_by sections) (first (judged sections.states) (statements sections)) (text_agrees sections is) (unbroken_again sections whole)
     where
-      by : (r : Result SeenController Refusal) (t : Result (Unit {0}) Refusal) → Agrees (IsRead sections) r t → t ≡ Ok tt → (c : SeenController) × SeenResolves sections c
-      by _ _ (fine c read) e = (c, read.resolves)
+      by : (r : Result SeenController Refusal) (t : Result (Unit {0}) Refusal) → Agrees (IsRead sections) r t → t ≡ Ok tt → (c : SeenController) × IsRead sections c
+      by _ _ (fine c read) e = (c, read)
       by _ _ (stops r) e = absurd (cc)
 
   pub found_is : (result : Result Controller ReadFault) → GivesSeenUnless controller_seen result (controller_by sections) → IfOk result (λ c. Resolves sections c)
@@ -85,4 +86,14 @@ either_statements sections = by (first (judged sections.states) (statements sect
     by (Err r) e = inr (r, first_broken sections r e)
 
 pub some_controller : (bytes : List ℕ) (sections : Sections) → IsText bytes sections → IsUnbroken sections → (c : SeenController) × SeenResolves sections c
-some_controller bytes sections spelled whole = some_is sections (sections_within bytes sections spelled) whole
+some_controller bytes sections spelled whole =
+    let c = some_read sections (sections_within bytes sections spelled) whole in
+    (c.0, c.1.resolves)
+
+-- and its denominator is within the limit
+pub some_scaled : (bytes : List ℕ) (sections : Sections) → IsText bytes sections → IsUnbroken sections
+    → (c : SeenController) × (SeenResolves sections c × IsScale (unsigned_abs c.den))
+some_scaled bytes sections spelled whole =
+    let c = some_read sections (sections_within bytes sections spelled) whole in
+    let d = c.1.within in
+    (c.0, (c.1.resolves, subst IsScale (sym (ap unsigned_abs d.1)) d.2.scale))

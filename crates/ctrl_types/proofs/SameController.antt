@@ -84,7 +84,7 @@ same_rate states (Some r) (Some x) (Some y) one two = sym one ∙ two
 some_same : (x y : Lin) → Some x ≡ Some y → x ≡ y
 some_same x y e = cc
 
-same_seen : (s : Sections) (x y : SeenController) → SeenResolves s x → SeenResolves s y → x ≡ y
+pub same_seen : (s : Sections) (x y : SeenController) → SeenResolves s x → SeenResolves s y → x ≡ y
 same_seen s x y one two =
     let states : x.states ≡ y.states = one.states ∙ sym two.states in
     let rules = same_rules s.states s.rules x.rules y.rules one.rules two.rules in

@@ -18,6 +18,12 @@ pub record IsLeastCommon (nums : List Num) (l : ℕ) : Type 0 where
   pub common : All (λ n. den_of n ∣ l) nums
   pub least : (m : ℕ) → All (λ n. den_of n ∣ m) nums → l ∣ m
 
+-- the number s and each denominator divide the number, and the number divides each such number
+pub record IsLeastOver (s : ℕ) (nums : List Num) (l : ℕ) : Type 0 where
+  pub of_start : s ∣ l
+  pub of_nums : All (λ n. den_of n ∣ l) nums
+  pub least : (m : ℕ) → s ∣ m → All (λ n. den_of n ∣ m) nums → l ∣ m
+
 -- the least common multiple with one number more, if it isn't past the limit
 abbrev pub joined : ℕ → Num → Option ℕ
 joined s n = if nat_le (common s n) 1000000 then Some (common s n) else None

@@ -1,8 +1,5 @@
 pub mod PieceLaws
 pub mod NumberLaws
 pub mod SpellingLaws
+pub mod ReadingLaws
 pub mod StepLaws
-pub mod ItemLaws
-pub mod LineLaws
-pub mod WantLaws
-pub mod RefusalLaws

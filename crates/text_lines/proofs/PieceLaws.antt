@@ -11,7 +11,7 @@ use Rattle.std.specs.List.{AllByRecursion}
 use Rattle.std.specs.Prelude.{not, ◌&&◌}
 use Rattle.text_lines.specs.Pieces.{pieces, line_of, ended, spaced, text, is_free, AreItems}
 use Rattle.text_lines.specs.Steps.{numbered}
-use Rattle.text_lines.specs.Lines.{Unread, first_line, next, is_over}
+use Rattle.text_lines.specs.Lines.{Unread, first_line, next, is_over, is_finished}
 
 some_is : (m n : ℕ) → Some m ≡ Some n → m ≡ n
 some_is m n e = cc
@@ -106,6 +106,17 @@ pieces_over (x ∷ bytes) = by_test (is_over (pieces 10 (x ∷ bytes))) refl
         let p = some_piece 10 (x ∷ bytes) in
         absurd (cons_is_nil (pieces_of_nothing_alone 10 (x ∷ bytes) (p.1.1 ∙ over_is_nothing p.0 p.1.0 (ap is_over (sym p.1.1) ∙ e))))
     by_test false e = e ∙ sym nonzero
+
+-- where not a byte is left, there is no line
+no_line : (k : ℕ) (left : List (List ℕ)) → is_over left ≡ true → next (record { line = k; pieces = left }) ≡ None
+unfolding next is_over
+no_line k [] e = refl
+no_line k (piece ∷ []) e = refl
+no_line k ([] ∷ piece ∷ left) e = absurd (cc)
+no_line k ((b ∷ bytes) ∷ piece ∷ left) e = absurd (cc)
+
+pub over_has_none : (rest : Unread) → is_finished rest ≡ true → next rest ≡ None
+over_has_none rest e = no_line rest.line rest.pieces e
 
 -- taking a line off what is left of a text
 pub line_is_taken : (unread : Unread) (n : ℕ) (bytes line rest : List ℕ) → record { line = n; pieces = pieces 10 bytes } ≡ unread → pieces 10 bytes ≡ line ∷ pieces 10 rest → next unread ≡ Some (line, record { line = n + 1; pieces = pieces 10 rest })

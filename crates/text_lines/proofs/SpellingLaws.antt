@@ -203,7 +203,7 @@ whole_taken (c ∷ cs) z e = by_test (eqb c 45) refl e
     by_test false p q = nonnegative_taken (c ∷ cs) z q
 
 -- digits have no sign in front
-digits_unsigned : (item : List ℕ) → all_digits item ≡ true → read_whole item ≡ signed_by pos (read_natural item)
+pub digits_unsigned : (item : List ℕ) → all_digits item ≡ true → read_whole item ≡ signed_by pos (read_natural item)
 unfolding read_whole
 digits_unsigned [] p = refl
 digits_unsigned (c ∷ cs) p =

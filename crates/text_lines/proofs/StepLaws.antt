@@ -1,10 +1,7 @@
 -- Laws of steps that follow each other.
 use Rattle.std.proofs.Common.{◌≡◌, ℕ, zero, suc, ◌+◌, ◌-◌, ◌<◌, ◌≤◌, Result, Ok, Err, List, [], ◌∷◌, ◌++◌, length, get_or, refl, sym, ap, subst, ◌∙◌, append_assoc, arith}
 use Rattle.std.proofs.lemmas.List.{append-nil}
-use Rattle.whole.specs.declared.answers.ReadFault.{ReadFault}
-use Rattle.whole.specs.declared.answers.ReadFault.TheVariants.{Refused, NoMemory}
-use Rattle.whole.specs.declared.answers.Refusal.{Refusal}
-use Rattle.text_lines.specs.Steps.{◌>>=◌, Fails, each, numbered, AllNumbered}
+use Rattle.text_lines.specs.Steps.{◌>>=◌, each, AllNumbered}
 
 -- the value of a step that did not fail
 pub bind_ok : {A B E : Type 0} (r : Result A E) (f : A → Result B E) (y : B) → (r >>= f) ≡ Ok y → (x : A) × (r ≡ Ok x) × (f x ≡ Ok y)
@@ -13,6 +10,10 @@ bind_ok (Err d) f y e = absurd (cc)
 
 pub ok_is : {A E : Type 0} (x y : A) → ◌≡◌ {A = Result A E} (Ok x) (Ok y) → x ≡ y
 ok_is x y e = cc
+
+pub bind_assoc : {A B C E : Type 0} (r : Result A E) (f : A → Result B E) (g : B → Result C E) → ((r >>= f) >>= g) ≡ (r >>= λ x. f x >>= g)
+bind_assoc (Ok x) f g = refl
+bind_assoc (Err e) f g = refl
 
 -- ---- a loop over steps: what was read before, and what is still read
 
@@ -43,13 +44,6 @@ each_stops fault step count i k front rest total lt failed so_far =
     let one : with_front front (each step (count - i) k rest) ≡ Err fault = rw (more, failed) refl in
     sym so_far ∙ one
 
--- the same, where memory may run out
-pub each_fails : {X R : Type 0} (fault : ReadFault) (step : ℕ → R → Result (X × R) Refusal) (count i k : ℕ) (front : List X) (rest : R) (total : Result (List X × R) Refusal)
-    → i < count → Fails fault (step k rest)
-    → with_front front (each step (count - i) k rest) ≡ total → Fails fault total
-each_fails NoMemory step count i k front rest total lt failed so_far = tt
-each_fails (Refused refusal) step count i k front rest total lt failed so_far = each_stops refusal step count i k front rest total lt failed so_far
-
 -- all steps were done
 pub each_is_done : {X R E : Type 0} (step : ℕ → R → Result (X × R) E) (count i k : ℕ) (front : List X) (rest : R) (total : Result (List X × R) E)
     → count ≤ i → with_front front (each step (count - i) k rest) ≡ total → total ≡ Ok (front, rest)
@@ -58,39 +52,6 @@ each_is_done step count i k front rest total le so_far =
     let none : count - i ≡ 0 = omega arith in
     let one : with_front front (each step (count - i) k rest) ≡ Ok (front, rest) = rw none (ap (λ (xs : List _). Ok (xs, rest)) (append-nil front)) in
     sym so_far ∙ one
-
--- ---- what each value takes, all take in turn
-
--- R is left of what there was when the pieces were taken off
-pub record Takes {Y R : Type 0} (left : R → List Y) (old new : R) (taken : List Y) : Type 0 where
-  pub parts : left old ≡ taken ++ left new
-
-pub Takes-then : {Y R : Type 0} (left : R → List Y) (a b c : R) (xs ys : List Y) → Takes left a b xs → Takes left b c ys → Takes left a c (xs ++ ys)
-Takes-then left a b c xs ys p q = record { parts = p.parts ∙ ap (λ (rest : List _). xs ++ rest) q.parts ∙ sym (append_assoc xs ys (left c)) }
-
-pub record TakesAll {X Y R : Type 0} (left : R → List Y) (lines : ℕ → X → List Y) (P : ℕ → X → Type 0) (first count : ℕ) (xs : List X) (old new : R) : Type 0 where
-  pub takes : Takes left old new (numbered lines first xs)
-  pub count_is : length xs ≡ count
-  pub all : AllNumbered P first xs
-
-pub each_takes : {X Y R E : Type 0} (left : R → List Y) (lines : ℕ → X → List Y) (P : ℕ → X → Type 0) (step : ℕ → R → Result (X × R) E)
-    → ((i : ℕ) (rest : R) (x : X × R) → step i rest ≡ Ok x → Takes left rest x.1 (lines i x.0) × P i x.0)
-    → (count first : ℕ) (rest : R) (x : List X × R) → each step count first rest ≡ Ok x → TakesAll left lines P first count x.0 rest x.1
-unfolding each numbered AllNumbered
-each_takes {X} {Y} {R} {E} left lines P step one zero first rest x e =
-    let family : List X × R → Type 0 = λ y. TakesAll left lines P first 0 y.0 rest y.1 in
-    subst family (ok_is {E = E} ([], rest) x e) (record { takes = record { parts = refl }; count_is = refl; all = tt })
-each_takes {X} {Y} {R} {E} left lines P step one (suc count) first rest x e =
-    let a = bind_ok (step first rest) (λ y. each step count (first + 1) y.1 >>= λ ys. Ok (y.0 ∷ ys.0, ys.1)) x e in
-    let b = bind_ok (each step count (first + 1) a.0.1) (λ ys. Ok (a.0.0 ∷ ys.0, ys.1)) x a.2 in
-    let front = one first rest a.0 a.1 in
-    let others = each_takes left lines P step one count (first + 1) a.0.1 b.0 b.1 in
-    let family : List X × R → Type 0 = λ y. TakesAll left lines P first (suc count) y.0 rest y.1 in
-    subst family {x = (a.0.0 ∷ b.0.0, b.0.1)} (ok_is {E = E} (a.0.0 ∷ b.0.0, b.0.1) x b.2) (record {
-      takes = Takes-then left rest a.0.1 b.0.1 (lines first a.0.0) (numbered lines (first + 1) b.0.0) front.0 others.takes;
-      count_is = ap suc others.count_is;
-      all = (front.1, others.all);
-    })
 
 -- what holds of each value and its number, at a place
 pub AllNumbered-at : {X : Type 0} (P : ℕ → X → Type 0) (d : X) (first : ℕ) (xs : List X) → AllNumbered P first xs → (i : ℕ) → i < length xs → P (first + i) (get_or xs i d)

@@ -1,5 +1,5 @@
 -- Decimal numbers with one spelling: digits with no leading zero, and `-` before a negative number.
-use Rattle.std.specs.Prelude.{ℕ, ◌+◌, ◌-◌, ◌*◌, ◌^◌, ℤ, pos, List, [], ◌∷◌, Bool, false, ◌&&◌, ◌==◌, nat_le, nat_lt, if◌then◌else◌, Result, Ok, Err}
+use Rattle.std.specs.Prelude.{◌≡◌, ℕ, ◌+◌, ◌-◌, ◌*◌, ◌^◌, ℤ, pos, List, [], ◌∷◌, Bool, true, false, ◌&&◌, ◌==◌, nat_le, nat_lt, if◌then◌else◌, ◌⊎◌, Result, Ok, Err}
 use Rattle.std.specs.Char.{is_ascii_digit}
 use Rattle.std.specs.List.{list_all}
 use Rattle.std.proofs.Common.{neg_ℤ}
@@ -28,6 +28,16 @@ value_after n (c ∷ cs) = value_after (n * 10 + (c - 48)) cs
 
 abbrev pub value : List ℕ → ℕ
 value digits = value_after 0 digits
+
+-- the item is the one spelling of this number
+abbrev pub IsNumber : List ℕ → ℕ → Type 0
+IsNumber item n = (is_spelled item ≡ true) × (value item ≡ n)
+
+-- the item is the one spelling of a whole number of this size: a number, or `-` and a number above 0
+abbrev pub HasSize : List ℕ → ℕ → Type 0
+HasSize item n = IsNumber item n ⊎ ((digits : List ℕ) × ((item ≡ 45 ∷ digits) × (is_positive digits ≡ true) × (value digits ≡ n)))
+
+-- ---- reading a number
 
 -- the number, if its size is at most 2^127 - 1
 abbrev pub limited : ℕ → Result ℕ ItemFault

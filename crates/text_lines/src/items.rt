@@ -1,10 +1,7 @@
-ghost use Rattle.std.specs.Prelude.{◌≡◌, ◌<◌, ℕ, ◌∷◌, ◌++◌, ◌^◌, [], List, MatchOption, IsTrue, IfOk, ◌≤◌, nat_le, ◌&&◌};
+ghost use Rattle.std.specs.Prelude.{◌≡◌, ◌∷◌, [], MatchOption};
 ghost use Rattle.text_lines.specs.Pieces.{pieces};
-ghost use Rattle.text_lines.specs.Steps.{Gives};
-ghost use Rattle.text_lines.specs.Items.{word_at, natural_at, positive_at, whole_at, end_at};
 
 use crate::cut::cut;
-use crate::numbers::{natural_of, whole_of};
 use std::marker::Model;
 
 /// What is wrong with an item, or with its absence.
@@ -16,8 +13,7 @@ pub enum ItemFault {
     Large,
 }
 
-/// The items of a line that are left, which contracts see as a list. Each method takes the first of
-/// them; after a fault the place is free.
+/// The items of a line that are left, which contracts see as a list.
 #[derive(Drop)]
 pub struct LineItems<'a> {
     rest: Option<&'a [u8]>,
@@ -49,75 +45,4 @@ impl<'a> LineItems<'a> {
         self.rest = rest;
         Some(item)
     }
-
-    /// Takes this very word.
-    #[tactic(auto, unfolding(crate::specs::Items::word_at))]
-    pub fn word(&mut self, word: &[u8]) -> Result<(), ItemFault>
-        ensures { Gives result self.new (word_at word.now self.old) }
-    {
-        match self.next_item() {
-            Some(item) if item == word => Ok(()),
-            _ => Err(ItemFault::Form),
-        }
-    }
-
-    /// Takes a number from `low` to `high`.
-    #[tactic(auto, unfolding(crate::specs::Items::natural_at))]
-    pub fn natural(&mut self, low: u32, high: u32) -> Result<u32, ItemFault>
-        ensures exact { Gives result self.new (natural_at low high self.old) }
-        ensures range { IfOk result (λ number. (low ≤ number) × (number ≤ high)) }
-    {
-        let item = self.next_item().ok_or(ItemFault::Form)?;
-        match natural_of(item) {
-            Ok(number) => {
-                if is_between(low, number, high) {
-                    Ok(number as u32)
-                } else {
-                    Err(ItemFault::Form)
-                }
-            }
-            Err(_) => Err(ItemFault::Form),
-        }
-    }
-
-    /// Takes a whole number above 0, of at most `2^127 - 1`.
-    #[tactic(auto, using(std::proofs::lemmas::Int::to_z_pos), unfolding(crate::specs::Items::positive_at))]
-    pub fn positive(&mut self) -> Result<i128, ItemFault>
-        ensures { Gives result self.new (positive_at self.old) }
-    {
-        let item = self.next_item().ok_or(ItemFault::Form)?;
-        let number = natural_of(item)?;
-        if number == 0 {
-            return Err(ItemFault::Form);
-        }
-        Ok(number as i128)
-    }
-
-    /// Takes a whole number of at most `2^127 - 1` in size.
-    #[tactic(auto, unfolding(crate::specs::Items::whole_at))]
-    pub fn whole(&mut self) -> Result<i128, ItemFault>
-        ensures { Gives result self.new (whole_at self.old) }
-    {
-        let item = self.next_item().ok_or(ItemFault::Form)?;
-        whole_of(item)
-    }
-
-    /// Nothing where no item is left.
-    #[tactic(auto, unfolding(crate::specs::Items::end_at))]
-    pub fn end(&mut self) -> Result<(), ItemFault>
-        ensures { result ≡ end_at self.old }
-    {
-        match self.next_item() {
-            None => Ok(()),
-            Some(_) => Err(ItemFault::Form),
-        }
-    }
-}
-
-fn is_between(low: u32, number: u128, high: u32) -> bool
-    ensures between { result ≡ (nat_le low number && nat_le number high) }
-    ensures from { IsTrue result → low ≤ number }
-    ensures to { IsTrue result → number ≤ high }
-{
-    u128::from(low) <= number && number <= u128::from(high)
 }

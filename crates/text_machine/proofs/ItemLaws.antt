@@ -10,17 +10,16 @@ use Rattle.std.proofs.lemmas.Int.{ints}
 use Rattle.std.proofs.lemmas.Slice.Eq.{bytes_eq-Decides}
 use Rattle.text_lines.specs.declared.items.ItemFault.{ItemFault}
 use Rattle.text_lines.specs.declared.items.ItemFault.TheVariants.{Form as IsForm, Large as IsLarge}
-use Rattle.text_lines.specs.Numbers.{is_spelled, is_positive, value, limited, read_natural, read_whole}
+use Rattle.text_lines.specs.Numbers.{is_spelled, is_positive, limited, IsNumber, read_natural, read_whole}
 use Rattle.text_lines.specs.Steps.{◌>>=◌}
-use Rattle.text_lines.specs.Wants.{IsNumber, whole as any_whole}
 use Rattle.text_lines.specs.Pieces.{IsItem, is_free}
 use Rattle.text_lines.proofs.NumberLaws.{limited_past}
 use Rattle.text_lines.proofs.StepLaws.{bind_ok, ok_is}
 use Rattle.text_lines.proofs.SpellingLaws.{natural_taken, natural_again, whole_taken, whole_again, signed_decimal_is_item, decimal_is_item}
-use Rattle.text_lines.proofs.WantLaws.{Reads, kept, past, none, natural_reads, judge, judged, forget, decided_bad, bad_decided}
+use Rattle.text_lines.proofs.ReadingLaws.{Reads, kept, past, none, natural_reads, number_is, whole_past, past_whole}
 use Rattle.text_machine.specs.declared.faults.Fault.{Fault}
 use Rattle.text_machine.specs.declared.faults.Fault.TheVariants.{Form, Large, Negative, Twice}
-use Rattle.text_machine.specs.Items.{Want, natural, positive, whole, below, literal, one_of, fresh, is_item, spell_item, word_at, place_among, IsAmong, IsWithin, IsItemOf, IsFault, ItemFails, number_by, ranged_by, refuse_negative, bounded, literal_by, read_literal, is_equal, is_among, read_item}
+use Rattle.text_machine.specs.Items.{Want, natural, positive, whole, index, below, literal, one_of, fresh, is_item, spell_item, word_at, place_among, IsAmong, IsWithin, IsItemOf, IsFault, ItemFails, number_by, ranged_by, refuse_negative, bounded, literal_by, read_literal, is_equal, is_among, read_item}
 
 -- ---- tests
 
@@ -39,11 +38,6 @@ and_parts false b e = absurd (cc)
 
 not_both : {b : Bool} → b ≡ true → b ≡ false → ⊥
 not_both p q = cc
-
--- the number of an item that spells one
-number_is : (item : List ℕ) (n : ℕ) → IsNumber item n → read_natural item ≡ limited n
-unfolding read_natural
-number_is item n is = ap (λ t. cond t (limited (value item)) (Err IsForm)) is.0 ∙ ap limited is.1
 
 equal_is : (x y : ℤ) → is_equal x y ≡ true → x ≡ y
 equal_is (pos m) (pos n) e = ap pos (eqb-true m n e)
@@ -138,12 +132,20 @@ positive_says item r e (kept n is small) = by_number n (natural_taken item n e).
     by_number (suc k) spelled lt = subst (λ t. Says positive item (cond t (Err Form) (Ok (pos (suc k))))) (sym (suc_is_some k)) (met (pos (suc k)) (record { spelled = spelled; within = (omega (arith, ints), lt) }))
 
 whole_says : (item : List ℕ) (r : Result ℤ ItemFault) → read_whole item ≡ r → Says whole item (number_by (λ z. Ok z) r)
-unfolding judge
 whole_says item (Ok z) e =
     let taken = whole_taken item z e in
     met z (record { spelled = taken.text_is; within = taken.within })
 whole_says item (Err IsForm) e = wrong
-whole_says item (Err IsLarge) e = faulty Large (refl, decided_bad (judge any_whole item) (judged any_whole item) IsLarge (ap forget e))
+whole_says item (Err IsLarge) e = faulty Large (refl, whole_past item e)
+
+index_says : (limit : ℕ) (item : List ℕ) (r : Result ℕ ItemFault) → read_natural item ≡ r → Reads item r → Says (index limit) item (number_by (λ n. cond (ltb n limit) (Ok (pos n)) (Err Large)) r)
+index_says limit item r e (past n is large) = faulty Large (refl, (n, (is, inr large)))
+index_says limit item r e (none not) = wrong
+index_says limit item r e (kept n is small) = by_test (ltb n limit) refl
+  where
+    by_test : (t : Bool) → ltb n limit ≡ t → Says (index limit) item (cond t (Ok (pos n)) (Err Large))
+    by_test true p = met (pos n) (record { spelled = (natural_taken item n e).0; within = (n, (refl, ltb-true n limit p, small)) })
+    by_test false p = faulty Large (refl, (n, (is, inl (ltb-false n limit p))))
 
 below_says : (limit : ℕ) (item : List ℕ) (r : Result ℕ ItemFault) → read_natural item ≡ r → Reads item r → Says (below limit) item (bounded item limit r)
 below_says limit item r e (past n is large) = faulty Large (inl (refl, (n, (is, inr large))))
@@ -200,6 +202,7 @@ unfolding read_item
 says (natural low high) item = natural_says low high item (read_natural item) refl
 says positive item = positive_says item (read_natural item) refl (natural_reads item)
 says whole item = whole_says item (read_whole item) refl
+says (index limit) item = index_says limit item (read_natural item) refl (natural_reads item)
 says (below limit) item = below_says limit item (read_natural item) refl (natural_reads item)
 says (literal limit) item = literal_says limit item
 says (one_of words ok) item = one_says words ok item (place_among words item) refl
@@ -224,6 +227,9 @@ positive_of (pos zero) above small = absurd (omega (arith, ints))
 positive_of (pos (suc n)) above small = ap (number_by (λ k. cond (eqb k 0) (Err Form) (Ok (pos k)))) (natural_again (suc n) small) ∙ ap (λ t. cond t (Err Form) (Ok (pos (suc n)))) (suc_is_some n)
 positive_of (negsuc n) above small = absurd (omega (arith, ints))
 
+index_of : (item : List ℕ) (limit n : ℕ) → read_natural item ≡ Ok n → n < limit → number_by (λ k. cond (ltb k limit) (Ok (pos k)) (Err Large)) (read_natural item) ≡ Ok (pos n)
+index_of item limit n e lt = ap (number_by (λ k. cond (ltb k limit) (Ok (pos k)) (Err Large))) e ∙ ap (λ t. cond t (Ok (pos n)) (Err Large)) (lt-ltb n limit lt)
+
 below_of : (item : List ℕ) (limit n : ℕ) → read_natural item ≡ Ok n → n < limit → bounded item limit (read_natural item) ≡ Ok (pos n)
 below_of item limit n e lt = ap (bounded item limit) e ∙ ap (λ t. cond t (Ok (pos n)) (Err Large)) (lt-ltb n limit lt)
 
@@ -238,6 +244,8 @@ item_again (natural low high) z (n, (is, from, to, small)) =
     subst (λ (y : ℤ). ranged_by low high (read_natural (signed_decimal y)) ≡ Ok y) (sym is) (natural_of low high n from to small)
 item_again positive z is = positive_of z is.0 is.1
 item_again whole z is = ap (number_by (λ y. Ok y)) (whole_again z is)
+item_again (index limit) z (n, (is, lt, small)) =
+    subst (λ (y : ℤ). number_by (λ k. cond (ltb k limit) (Ok (pos k)) (Err Large)) (read_natural (signed_decimal y)) ≡ Ok y) (sym is) (index_of (decimal n) limit n (natural_again n small) lt)
 item_again (below limit) z (n, (is, lt, small)) =
     subst (λ (y : ℤ). bounded (signed_decimal y) limit (read_natural (signed_decimal y)) ≡ Ok y) (sym is) (below_of (decimal n) limit n (natural_again n small) lt)
 item_again (literal limit) z is = literal_of limit z is
@@ -269,15 +277,14 @@ unfolding read_natural is_spelled is_positive
 no_sign [] = refl
 no_sign (d ∷ ds) = refl
 
-whole_large : (r : Result ℤ ItemFault) → forget r ≡ Err IsLarge → r ≡ Err IsLarge
-whole_large (Ok z) e = absurd (cc)
-whole_large (Err f) e = cc
-
 pub fault_read : (want : Want) (item : List ℕ) (f : Fault) → IsFault want item f → read_item want item ≡ Err f
-unfolding read_item judge
+unfolding read_item
 fault_read (natural low high) item f b = absurd b
 fault_read positive item f (e, (n, (is, large))) = ap (number_by (λ k. cond (eqb k 0) (Err Form) (Ok (pos k)))) (large_number item n is large) ∙ ap (λ g. Err g) (sym e)
-fault_read whole item f (e, b) = ap (number_by (λ z. Ok z)) (whole_large (read_whole item) (bad_decided (judge any_whole item) (judged any_whole item) IsLarge b)) ∙ ap (λ g. Err g) (sym e)
+fault_read whole item f (e, b) = ap (number_by (λ z. Ok z)) (past_whole item b) ∙ ap (λ g. Err g) (sym e)
+fault_read (index limit) item f (e, (n, (is, which))) =
+    ap (number_by (λ k. cond (ltb k limit) (Ok (pos k)) (Err Large))) (number_is item n is)
+    ∙ past_limit limit n (λ k. Ok (pos k)) (number_by (λ k. cond (ltb k limit) (Ok (pos k)) (Err Large))) (λ k le. ap (λ t. cond t (Ok (pos k)) (Err Large)) (le-ltb k limit le)) refl which ∙ ap (λ g. Err g) (sym e)
 fault_read (below limit) item f (inl (e, (n, (is, which)))) =
     ap (bounded item limit) (number_is item n is)
     ∙ past_limit limit n (λ k. Ok (pos k)) (bounded item limit) (λ k le. ap (λ t. cond t (Ok (pos k)) (Err Large)) (le-ltb k limit le)) refl which ∙ ap (λ g. Err g) (sym e)
@@ -322,6 +329,7 @@ fault_has_no_form : (want : Want) (item : List ℕ) (f : Fault) → f ≡ Form �
 fault_has_no_form (natural low high) item f is b = b
 fault_has_no_form positive item f is b = absurd_is f is b.0
 fault_has_no_form whole item f is b = absurd_is f is b.0
+fault_has_no_form (index limit) item f is b = absurd_is f is b.0
 fault_has_no_form (below limit) item f is (inl b) = absurd_is f is b.0
 fault_has_no_form (below limit) item f is (inr b) = cc (is, b.0)
 fault_has_no_form (literal limit) item f is b = absurd_is f is b.0
@@ -353,6 +361,7 @@ pub number_is_item : (want : Want) (z : ℤ) → IsWithin want z → IsItem (spe
 number_is_item (natural low high) z (n, (is, from, to, small)) = subst (λ (y : ℤ). IsItem (signed_decimal y)) (sym is) (decimal_is_item n (omega arith))
 number_is_item positive z is = signed_decimal_is_item z is.1
 number_is_item whole z is = signed_decimal_is_item z is
+number_is_item (index limit) z (n, (is, lt, small)) = subst (λ (y : ℤ). IsItem (signed_decimal y)) (sym is) (decimal_is_item n (omega arith))
 number_is_item (below limit) z (n, (is, lt, small)) = subst (λ (y : ℤ). IsItem (signed_decimal y)) (sym is) (decimal_is_item n (omega arith))
 number_is_item (literal limit) (pos n) is =
     let digits = decimal_is_item n (omega (arith, is.1)) in

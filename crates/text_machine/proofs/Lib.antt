@@ -1,7 +1,9 @@
 pub mod ItemLaws
 pub mod FormLaws
+pub mod TimesLaws
 pub mod TextLaws
 pub mod ScriptLaws
 pub mod PartLaws
 pub mod TypedLaws
 pub mod LoopLaws
+pub mod FieldLaws

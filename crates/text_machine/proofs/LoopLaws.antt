@@ -1,12 +1,10 @@
 -- A loop that feeds a text's lines to a format, with the state as what it keeps.
-use Rattle.std.proofs.Common.{◌≡◌, ℕ, ◌+◌, ℤ, Bool, true, false, Option, None, Some, Result, Ok, Err, List, [], ◌∷◌, ◌++◌, refl, sym, ap, subst, ◌∙◌, append_assoc}
-use Rattle.std.proofs.lemmas.List.{append-nil}
-use Rattle.text_lines.specs.Lines.{Unread, next, is_over, is_finished}
+use Rattle.std.proofs.Common.{◌≡◌, ℕ, ◌+◌, ℤ, None, Some, Result, Ok, Err, List, [], ◌∷◌, ◌++◌, refl, sym, ap, subst, ◌∙◌, append_assoc}
+use Rattle.text_lines.specs.Lines.{Unread, next}
 use Rattle.text_lines.specs.Pieces.{pieces}
 use Rattle.text_lines.specs.Steps.{◌>>=◌}
 use Rattle.text_lines.proofs.PieceLaws.{some_piece}
-use Rattle.text_machine.specs.Lines.{LineForm}
-use Rattle.text_machine.specs.Texts.{Table, Format, step, finish, finish_by, read_pieces, read_text}
+use Rattle.text_machine.specs.Texts.{Table, Format, step, finish, read_pieces, read_text}
 use Rattle.text_machine.proofs.ScriptLaws.{unread, SomePiece}
 
 -- the lines before were read, and what is read in all is what was read and what is still read

@@ -23,6 +23,10 @@ pub record Typed {S T : Type 0} (format : Format S Refusal) (s : S) (table : T �
   pub sized : (bytes : List ℕ) (t : T) → IsText bytes t → Sized t
   pub same : (x y : T) → Sized x → Sized y → table x ≡ table y → x ≡ y
 
+-- tables are values of their own
+pub tables : {S : Type 0} (format : Format S Refusal) (s : S) → Typed format s (λ t. t) (IsTextOf format s) (λ _. Unit {0})
+tables format s = record { is = λ bytes t p. p; of = λ bytes t p. record { value = t; is = refl; is_text = p }; sized = λ bytes t p. tt; same = λ x y p q e. e }
+
 ok_same : (x y : Table) → ◌≡◌ {A = Result Table Refusal} (Ok x) (Ok y) → x ≡ y
 ok_same x y e = cc
 

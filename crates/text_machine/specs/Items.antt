@@ -1,13 +1,12 @@
 -- What is wanted in an item's place, the number that it stands for, and what is wrong with another item.
-use Rattle.std.specs.Prelude.{◌≡◌, ℕ, suc, ◌^◌, ◌<◌, ◌≤◌, ℤ, pos, negsuc, ◌≤ℤ◌, unsigned_abs, Bool, true, false, ◌&&◌, ◌==◌, nat_eq, nat_le, nat_lt, if◌then◌else◌, List, [], ◌∷◌, ◌⊎◌, Result, Ok, Err}
+use Rattle.std.specs.Prelude.{◌≡◌, ℕ, suc, ◌^◌, ◌<◌, ◌≤◌, ℤ, pos, negsuc, ◌≤ℤ◌, unsigned_abs, Bool, true, false, not, ◌&&◌, ◌==◌, nat_eq, nat_le, nat_lt, if◌then◌else◌, List, [], ◌∷◌, ◌⊎◌, Result, Ok, Err}
 use Rattle.std.proofs.Common.{get_or}
 use Rattle.std.specs.Fmt.{decimal, signed_decimal}
 use Rattle.std.specs.Str.{bytes_eq}
 use Rattle.text_lines.specs.Steps.{◌>>=◌}
-use Rattle.text_lines.specs.Numbers.{is_positive, read_natural, read_whole}
+use Rattle.text_lines.specs.Numbers.{is_positive, IsNumber, HasSize, read_natural, read_whole}
 use Rattle.std.specs.List.{list_all}
 use Rattle.text_lines.specs.Pieces.{is_free}
-use Rattle.text_lines.specs.Wants.{IsNumber, HasSize}
 use Rattle.text_lines.specs.declared.items.ItemFault.{ItemFault}
 use Rattle.text_lines.specs.declared.items.ItemFault.TheVariants.{Form as IsForm, Large as IsLarge}
 use Rattle.text_machine.specs.declared.faults.Fault.{Fault}
@@ -27,6 +26,8 @@ pub data Want : Type 0 where
   -- at most 2^127 - 1 in size
   whole : Want
   -- a number below this limit and 2^127
+  index : ℕ → Want
+  -- the same, where a number below 0 is a fault of its own
   below : ℕ → Want
   -- `+` or `-`, and a number below this limit and 2^127
   literal : ℕ → Want
@@ -42,6 +43,15 @@ abbrev pub place_among : List (List ℕ) → List ℕ → Result ℕ Fault
 place_among [] item = Err Form
 place_among (word ∷ words) item = if bytes_eq item word then Ok 0 else (place_among words item >>= λ i. Ok (suc i))
 
+-- the number of an atom, or of its negation
+abbrev pub literal_number : ℕ → Bool → ℤ
+literal_number n true = pos n
+literal_number n false = negsuc n
+
+abbrev pub same_sign : Bool → Bool → Bool
+same_sign true other = other
+same_sign false other = not other
+
 abbrev pub spell_literal : ℤ → List ℕ
 spell_literal (pos n) = 43 ∷ decimal n
 spell_literal (negsuc n) = 45 ∷ decimal n
@@ -55,6 +65,7 @@ abbrev pub spell_item : Want → ℤ → List ℕ
 spell_item (natural low high) z = signed_decimal z
 spell_item positive z = signed_decimal z
 spell_item whole z = signed_decimal z
+spell_item (index limit) z = signed_decimal z
 spell_item (below limit) z = signed_decimal z
 spell_item (literal limit) z = spell_literal z
 spell_item (one_of words ok) z = word_at words z
@@ -74,6 +85,7 @@ abbrev pub IsWithin : Want → ℤ → Type 0
 IsWithin (natural low high) z = (n : ℕ) × ((z ≡ pos n) × (low ≤ n) × (n ≤ high) × (n < 2 ^ 127))
 IsWithin positive z = (pos 1 ≤ℤ z) × (unsigned_abs z < 2 ^ 127)
 IsWithin whole z = unsigned_abs z < 2 ^ 127
+IsWithin (index limit) z = (n : ℕ) × ((z ≡ pos n) × (n < limit) × (n < 2 ^ 127))
 IsWithin (below limit) z = (n : ℕ) × ((z ≡ pos n) × (n < limit) × (n < 2 ^ 127))
 IsWithin (literal limit) z = (atom_of z < limit) × (atom_of z < 2 ^ 127)
 IsWithin (one_of words ok) z = (i : ℕ) × ((z ≡ pos i) × (place_among words (get_or words i []) ≡ Ok i))
@@ -95,6 +107,7 @@ abbrev pub IsFault : Want → List ℕ → Fault → Type 0
 IsFault (natural low high) item fault = ⊥
 IsFault positive item fault = (fault ≡ Large) × ((n : ℕ) × (IsNumber item n × (2 ^ 127 ≤ n)))
 IsFault whole item fault = (fault ≡ Large) × ((n : ℕ) × (HasSize item n × (2 ^ 127 ≤ n)))
+IsFault (index limit) item fault = (fault ≡ Large) × ((n : ℕ) × (IsNumber item n × ((limit ≤ n) ⊎ (2 ^ 127 ≤ n))))
 IsFault (below limit) item fault =
     ((fault ≡ Large) × ((n : ℕ) × (IsNumber item n × ((limit ≤ n) ⊎ (2 ^ 127 ≤ n)))))
     ⊎ ((fault ≡ Negative) × ((digits : List ℕ) × ((item ≡ 45 ∷ digits) × (is_positive digits ≡ true))))
@@ -156,6 +169,7 @@ unfoldable pub read_item : Want → List ℕ → Result ℤ Fault
 read_item (natural low high) item = ranged_by low high (read_natural item)
 read_item positive item = number_by (λ n. if nat_eq n 0 then Err Form else Ok (pos n)) (read_natural item)
 read_item whole item = number_by (λ z. Ok z) (read_whole item)
+read_item (index limit) item = number_by (λ n. if nat_lt n limit then Ok (pos n) else Err Large) (read_natural item)
 read_item (below limit) item = bounded item limit (read_natural item)
 read_item (literal limit) item = read_literal limit item
 read_item (one_of words ok) item = place_among words item >>= λ i. Ok (pos i)

@@ -13,6 +13,8 @@ pub enum Fault {
     Twice,
     /// Nothing of its kind may stand there.
     Place,
+    /// Something has to stand before it.
+    Early,
 }
 
 impl From<ItemFault> for Fault {

@@ -8,6 +8,10 @@
 
 mod faults;
 mod fields;
+mod lists;
+#[cfg(test)]
+mod tests;
 
 pub use faults::Fault;
-pub use fields::Fields;
+pub use fields::{Fields, Literal, literal_of};
+pub use lists::{LineFault, last_wholes};

@@ -1,4 +1,2 @@
-pub mod States
-pub mod Header
 pub mod Parts
 pub mod Exactness

@@ -1,14 +1,15 @@
 -- The lines of a trace and their numbers: each line, row and run is a part of the table.
-use Rattle.std.proofs.Common.{◌≡◌, ℕ, zero, suc, ◌+◌, ◌^◌, ◌<◌, ◌≤◌, ℤ, pos, ◌≤ℤ◌, List, [], ◌∷◌, ◌++◌, length, get_or, map, refl, sym, ap, subst, ◌∙◌, arith}
+use Rattle.std.proofs.Common.{◌≡◌, ℕ, ◌+◌, ◌^◌, ◌<◌, ◌≤◌, ℤ, pos, ◌≤ℤ◌, List, [], ◌∷◌, ◌++◌, length, get_or, refl, sym, ap, subst, ◌∙◌, arith}
 use Rattle.std.specs.Prelude.{codes, All}
 use Rattle.std.specs.Fmt.{decimal, signed_decimal}
 use Rattle.text_lines.specs.Steps.{numbered}
 use Rattle.text_lines.proofs.StepLaws.{AllNumbered-at, AllNumbered-from}
 use Rattle.whole.specs.declared.answers.Refusal.{Refusal}
 use Rattle.text_machine.specs.Items.{whole}
-use Rattle.text_machine.specs.Lines.{stop, times, spell_line, Suits}
+use Rattle.text_machine.specs.Lines.{spell_line, Suits}
 use Rattle.text_machine.specs.Texts.{Table}
 use Rattle.text_machine.specs.Scripts.{lines_from, EachOf}
+use Rattle.text_machine.proofs.TimesLaws.{times_suit, times_fit, times_spelled}
 use Rattle.text_machine.proofs.PartLaws.{Part, OneLine, line_part, pair_part, as_part, each_part}
 use Rattle.run_rows.specs.declared.shapes.Shape.{Shape}
 use Rattle.run_rows.specs.declared.rows.Run.{Run}
@@ -59,43 +60,15 @@ waste_part i = record { suits = λ w f. (((i, (refl, omega arith, omega arith, f
         (w, (ap (λ (y : ℤ). y ∷ w ∷ []) (ap pos (sym same) ∙ sym is), (fits, omega arith)))
     of_numbers (z ∷ w ∷ y ∷ zs) s = absurd s.1.1
 
--- so many numbers, and nothing behind them
-times_suit : (count : ℕ) (zs : List ℤ) → length zs ≡ count → All IsEntry zs → Suits (times count whole stop) zs
-unfolding Suits
-times_suit zero [] l all = tt
-times_suit zero (z ∷ zs) l all = absurd (omega arith)
-times_suit (suc count) [] l all = absurd (omega arith)
-times_suit (suc count) (z ∷ zs) l all = (all 0 (pos 0) (omega arith), times_suit count zs (omega arith) (λ k d lt. all (suc k) d (omega arith)))
-
-times_fit : (count : ℕ) (zs : List ℤ) → Suits (times count whole stop) zs → (length zs ≡ count) × All IsEntry zs
-unfolding Suits
-times_fit zero [] s = (refl, (λ k d lt. absurd (omega arith)))
-times_fit zero (z ∷ zs) s = absurd s
-times_fit (suc count) [] s = absurd s
-times_fit (suc count) (z ∷ zs) s =
-    let others = times_fit count zs s.1 in
-    (ap suc others.0, at others.1)
-  where
-    at : All IsEntry zs → All IsEntry (z ∷ zs)
-    at all zero d lt = s.0
-    at all (suc k) d lt = all k d (omega arith)
-
-times_spelled : (count : ℕ) (zs : List ℤ) → Suits (times count whole stop) zs → spell_line (times count whole stop) zs ≡ map signed_decimal zs
-unfolding Suits spell_line
-times_spelled zero [] s = refl
-times_spelled zero (z ∷ zs) s = absurd s
-times_spelled (suc count) [] s = absurd s
-times_spelled (suc count) (z ∷ zs) s = ap (λ (is : List (List ℕ)). signed_decimal z ∷ is) (times_spelled count zs s.1)
-
 abbrev pub FitsFlow : ℕ → ℕ → FlowRow → Type 0
 FitsFlow states f flow = FlowFits states flow × (f < 2 ^ 127)
 
 flow_part : (states f : ℕ) → OneLine (flow_line states f) (flow_numbers f) (flow_spelled f) (FitsFlow states f)
 unfolding spell_line Suits
 flow_part states f = record {
-  suits = λ flow fits. (((f, (refl, omega arith, omega arith, fits.1)), (fits.0.bounded.a_in, (fits.0.bounded.s_in, (fits.0.bounded.l_in, times_suit states flow.x fits.0.shaped fits.0.bounded.x_in)))), tt);
+  suits = λ flow fits. (((f, (refl, omega arith, omega arith, fits.1)), (fits.0.bounded.a_in, (fits.0.bounded.s_in, (fits.0.bounded.l_in, times_suit whole states flow.x fits.0.shaped fits.0.bounded.x_in)))), tt);
   spells = λ flow fits.
-      ap (λ (is : List (List ℕ)). codes "flow" ∷ decimal f ∷ signed_decimal flow.a ∷ signed_decimal flow.s ∷ signed_decimal flow.l ∷ is) (times_spelled states flow.x (times_suit states flow.x fits.0.shaped fits.0.bounded.x_in));
+      ap (λ (is : List (List ℕ)). codes "flow" ∷ decimal f ∷ signed_decimal flow.a ∷ signed_decimal flow.s ∷ signed_decimal flow.l ∷ is) (times_spelled whole states flow.x (times_suit whole states flow.x fits.0.shaped fits.0.bounded.x_in));
   found = of_numbers;
   same = λ y z e. same_flow y z e;
 }
@@ -113,7 +86,7 @@ flow_part states f = record {
     of_numbers (z ∷ a ∷ b ∷ []) s = absurd s.1.1.1
     of_numbers (z ∷ a ∷ b ∷ l ∷ x) ((n, (is, low, high, small)), (a_in, (b_in, (l_in, states_in)))) =
         let same : n ≡ f = omega arith in
-        let x_fits = times_fit states x states_in in (
+        let x_fits = times_fit whole states x states_in in (
           record { a = a; s = b; l = l; x = x },
           (ap (λ (y : ℤ). y ∷ a ∷ b ∷ l ∷ x) (ap pos (sym same) ∙ sym is), (record { shaped = x_fits.0; bounded = record { a_in = a_in; s_in = b_in; l_in = l_in; x_in = x_fits.1 } }, omega arith)),
         )

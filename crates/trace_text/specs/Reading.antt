@@ -1,42 +1,14 @@
--- What the calls that read a trace give, where memory may run out.
-use Rattle.std.specs.Prelude.{◌≡◌, ℕ, ◌+◌, ℤ, List, [], ◌∷◌, ◌++◌, Result, Ok, Err, if◌then◌else◌}
-use Rattle.whole.specs.declared.answers.ReadFault.{ReadFault}
+-- The parts of a trace, as the calls that read it take them one after another, and how many flows and rows there are.
+use Rattle.std.specs.Prelude.{ℕ, ◌+◌, List, [], ◌∷◌, ◌++◌, Result, Ok, Err, if◌then◌else◌}
 use Rattle.whole.specs.declared.answers.Refusal.{Refusal}
 use Rattle.text_lines.specs.Lines.{Unread, is_finished}
-use Rattle.text_lines.specs.Steps.{◌>>=◌, Fails}
-use Rattle.text_machine.specs.declared.faults.Fault.{Fault}
+use Rattle.text_lines.specs.Steps.{◌>>=◌}
 use Rattle.text_machine.specs.Texts.{Table}
 use Rattle.text_machine.specs.Scripts.{line_by, lines_by, EachOf}
 use Rattle.run_rows.specs.declared.shapes.Shape.{Shape}
 use Rattle.run_rows.specs.declared.rows.Row.{Row}
 use Rattle.run_rows.specs.declared.rows.FlowRow.{FlowRow}
-use Rattle.trace_text.specs.declared.faults.LineFault.{LineFault}
-use Rattle.trace_text.specs.declared.faults.LineFault.TheVariants.{Item, NoMemory}
 use Rattle.trace_text.specs.Script.{refusal, header_line, shape_line, run_lines, end_line, shape_of}
-
--- the fault is the one that is read, unless memory ran out
-abbrev pub LineFails : {Y : Type 0} → LineFault → Result Y Fault → Type 0
-LineFails NoMemory read = Unit {0}
-LineFails (Item fault) read = read ≡ Err fault
-
-abbrev pub GivesLine : {X : Type 0} → (X → List ℤ) → Result X LineFault → Result (List ℤ) Fault → Type 0
-GivesLine numbers (Ok x) read = read ≡ Ok (numbers x)
-GivesLine numbers (Err fault) read = LineFails fault read
-
--- a call that leaves `rest` gives what is read, unless memory ran out
-abbrev pub GivesItems : {X R : Type 0} → Result X LineFault → R → Result (X × R) Fault → Type 0
-GivesItems (Ok x) rest read = read ≡ Ok (x, rest)
-GivesItems (Err fault) rest read = LineFails fault read
-
--- a call gives the numbers that are read
-abbrev pub Reads : {X Y E : Type 0} → (X → Y) → Result X E → Result Y E → Type 0
-Reads numbers (Ok x) read = read ≡ Ok (numbers x)
-Reads numbers (Err fault) read = read ≡ Err fault
-
--- a call that leaves `rest` gives the numbers that are read, unless memory ran out
-abbrev pub GivesLines : {X Y : Type 0} → (X → Y) → Result X ReadFault → Unread → Result (Y × Unread) Refusal → Type 0
-GivesLines numbers (Ok x) rest read = read ≡ Ok (numbers x, rest)
-GivesLines numbers (Err fault) rest read = Fails fault read
 
 -- not a byte is left
 abbrev pub finished_by : Unread → Result Table Refusal

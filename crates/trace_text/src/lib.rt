@@ -7,7 +7,6 @@
 //! leading zero.
 #![tactic(auto)]
 
-mod faults;
 mod laws;
 mod lines;
 mod printing;

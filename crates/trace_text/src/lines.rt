@@ -2,17 +2,13 @@
 ghost use Rattle.std.specs.Prelude.{◌≡◌, ℕ, Ok, Err, IfOk, MatchResult, []};
 ghost use Rattle.run_rows.specs.Limits.{IsWithin};
 ghost use Rattle.text_lines.specs.Pieces.{pieces};
-ghost use Rattle.text_lines.specs.Steps.{each};
-ghost use Rattle.text_machine.specs.Items.{whole};
-ghost use Rattle.text_machine.specs.Lines.{read_line, take, times, stop};
+ghost use Rattle.text_machine.specs.Lines.{read_line};
+ghost use Rattle.text_machine.specs.Given.{Reads, GivesLine};
 ghost use Rattle.trace_text.specs.Script.{refusal, blame, header_line, shape_line, over_line, credit_line, row_line, flow_line, end_line, shape_numbers, one_number, waste_numbers, flow_numbers};
-ghost use Rattle.trace_text.specs.Reading.{Reads, GivesLine, GivesItems};
 
-use crate::faults::LineFault;
 use run_rows::{FlowRow, Shape};
-use sqlite_items::Items;
 use std::alloc::Global;
-use text_machine::{Fault, Fields};
+use text_machine::{Fault, Fields, LineFault, last_wholes};
 use whole::Refusal;
 
 /// The refusal by the rule V of this number.
@@ -109,28 +105,6 @@ pub(crate) fn last_of(line: &[u8]) -> Result<(), Fault>
     fields.end()
 }
 
-/// So many numbers of a line.
-fn wholes_of(alloc: Global, fields: &mut Fields<'_>, count: u32) -> Result<Items<i128>, LineFault>
-    ensures { GivesItems result fields.new (each (λ _. take whole) count 0 fields.old) }
-{
-    let mut numbers = Items::new(alloc);
-    for _ in 0..count {
-        let number = fields.whole()?;
-        numbers.push(number)?;
-    }
-    Ok(numbers)
-}
-
-/// The states, with nothing behind them.
-#[tactic(auto, using(crate::proofs::States::times_reads))]
-fn states_of(alloc: Global, fields: &mut Fields<'_>, count: u32) -> Result<Items<i128>, LineFault>
-    ensures { GivesLine (λ states. states) result (read_line (times count whole stop) fields.old) }
-{
-    let states = wholes_of(alloc, fields, count)?;
-    fields.end()?;
-    Ok(states)
-}
-
 #[tactic(auto, unfolding(text_machine::specs::Lines::read_line))]
 pub(crate) fn flow_of(
     alloc: Global,
@@ -146,6 +120,6 @@ pub(crate) fn flow_of(
     let a = fields.whole()?;
     let s = fields.whole()?;
     let l = fields.whole()?;
-    let x = states_of(alloc, &mut fields, states)?;
+    let x = last_wholes(alloc, &mut fields, states)?;
     Ok(FlowRow { a, s, l, x })
 }

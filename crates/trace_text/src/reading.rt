@@ -1,6 +1,7 @@
 ghost use Rattle.std.specs.Prelude.{◌≡◌, ℕ, ◌+◌, ◌-◌, ◌^◌, ◌<◌, ◌≤◌, [], ◌∷◌, ◌++◌, length, All, IfOk, IsErrOf, MatchResult, None, Some, Ok, Err};
 ghost use Rattle.text_lines.specs.Lines.{next};
 ghost use Rattle.text_lines.specs.Steps.{GivesUnless, Fails, numbered};
+ghost use Rattle.text_machine.specs.Given.{GivesLines};
 ghost use Rattle.text_machine.specs.Scripts.{GivesAs, line_by, lines_by, lines_from};
 ghost use Rattle.text_machine.specs.Texts.{GivesText, named, read_text};
 ghost use Rattle.run_rows.specs.Limits.{IsWithin};
@@ -10,9 +11,8 @@ ghost use Rattle.run_rows.specs.declared.rows.Run.{Run};
 ghost use Rattle.whole.specs.declared.answers.Refusal.{Refusal};
 ghost use Rattle.trace_text.specs.Spelling.{IsTraceText};
 ghost use Rattle.trace_text.specs.Script.{refusal, blame, IsRefused, header_line, shape_line, over_line, credit_line, row_line, flow_line, end_line, flow_lines, row_lines, run_lines, shape_numbers, one_number, waste_numbers, flow_numbers, flow_table, row_table, run_table, trace_table, trace_script, trace_format};
-ghost use Rattle.trace_text.specs.Reading.{GivesLines, SizedFlows, SizedRow, SizedRows, trace_by};
+ghost use Rattle.trace_text.specs.Reading.{SizedFlows, SizedRow, SizedRows, trace_by};
 
-use crate::faults::LineFault;
 use crate::lines::{
     blame, credit_of, flow_of, header_of, last_of, over_of, refusal, shape_of, waste_of,
 };
@@ -20,7 +20,7 @@ use run_rows::{FlowRow, Row, Run, Shape};
 use sqlite_items::Items;
 use std::alloc::Global;
 use text_lines::Lines;
-use text_machine::Fault;
+use text_machine::{Fault, LineFault};
 use whole::{ReadFault, Refusal};
 
 /// Takes the next line. Where the text ends before its LF, `end` is missing.
@@ -43,7 +43,7 @@ fn blamed<T>(own: u8, line: u32, read: Result<T, Fault>) -> Result<T, Refusal>
     }
 }
 
-#[tactic(auto, using(crate::proofs::Header::over_has_none), unfolding(text_machine::specs::Scripts::line_by))]
+#[tactic(auto, using(text_lines::proofs::PieceLaws::over_has_none), unfolding(text_machine::specs::Scripts::line_by))]
 fn read_header(lines: &mut Lines<'_>) -> Result<(), Refusal>
     ensures { GivesAs (λ _. []) result lines.new (line_by header_line lines.old) }
 {

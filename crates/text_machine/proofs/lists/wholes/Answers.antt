@@ -6,7 +6,7 @@ use Rattle.text_machine.specs.Items.{whole}
 use Rattle.text_machine.specs.Lines.{take}
 use Rattle.text_lines.specs.Steps.{each}
 use Rattle.text_lines.proofs.StepLaws.{each_goes_on, each_stops, each_is_done}
-use Rattle.trace_text.proofs.lines.wholes_of.Goals as goal
+use Rattle.text_machine.proofs.lists.wholes.Goals as goal
 
 pub returns-in_err-number : goal.returns-in_err-number
 returns-in_err-number c =

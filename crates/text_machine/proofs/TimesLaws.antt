@@ -1,9 +1,10 @@
--- So many numbers are read one after another.
-use Rattle.std.proofs.Common.{◌≡◌, ℕ, zero, suc, ◌+◌, ℤ, Result, Ok, Err, List, [], ◌∷◌, refl, ap, ◌∙◌}
+-- So many numbers, one after another, with nothing behind them.
+use Rattle.std.proofs.Common.{◌≡◌, ℕ, zero, suc, ◌+◌, ℤ, pos, Result, Ok, Err, List, [], ◌∷◌, length, map, refl, ap, ◌∙◌, arith}
+use Rattle.std.specs.Prelude.{All}
 use Rattle.text_lines.specs.Steps.{◌>>=◌, each}
 use Rattle.text_machine.specs.declared.faults.Fault.{Fault}
-use Rattle.text_machine.specs.Items.{Want}
-use Rattle.text_machine.specs.Lines.{stop, times, take, take_end, read_line}
+use Rattle.text_machine.specs.Items.{Want, spell_item, IsWithin}
+use Rattle.text_machine.specs.Lines.{stop, times, take, take_end, spell_line, Suits, read_line}
 
 abbrev Row : Type 0
 Row = List ℤ × List (List ℕ)
@@ -35,3 +36,32 @@ times_read want (suc count) first items = by_first (take want items) (λ (x : �
 
 pub times_reads : (want : Want) (count : ℕ) (items : List (List ℕ)) → read_line (times count want stop) items ≡ (each (λ _. take want) count 0 items >>= λ x. take_end x.1 >>= λ _. Ok x.0)
 times_reads want count items = times_read want count 0 items
+
+-- ---- the numbers of such a line
+
+pub times_suit : (want : Want) (count : ℕ) (zs : List ℤ) → length zs ≡ count → All (IsWithin want) zs → Suits (times count want stop) zs
+unfolding Suits
+times_suit want zero [] l all = tt
+times_suit want zero (z ∷ zs) l all = absurd (omega arith)
+times_suit want (suc count) [] l all = absurd (omega arith)
+times_suit want (suc count) (z ∷ zs) l all = (all 0 (pos 0) (omega arith), times_suit want count zs (omega arith) (λ k d lt. all (suc k) d (omega arith)))
+
+pub times_fit : (want : Want) (count : ℕ) (zs : List ℤ) → Suits (times count want stop) zs → (length zs ≡ count) × All (IsWithin want) zs
+unfolding Suits
+times_fit want zero [] s = (refl, (λ k d lt. absurd (omega arith)))
+times_fit want zero (z ∷ zs) s = absurd s
+times_fit want (suc count) [] s = absurd s
+times_fit want (suc count) (z ∷ zs) s =
+    let others = times_fit want count zs s.1 in
+    (ap suc others.0, at others.1)
+  where
+    at : All (IsWithin want) zs → All (IsWithin want) (z ∷ zs)
+    at all zero d lt = s.0
+    at all (suc k) d lt = all k d (omega arith)
+
+pub times_spelled : (want : Want) (count : ℕ) (zs : List ℤ) → Suits (times count want stop) zs → spell_line (times count want stop) zs ≡ map (spell_item want) zs
+unfolding Suits spell_line
+times_spelled want zero [] s = refl
+times_spelled want zero (z ∷ zs) s = absurd s
+times_spelled want (suc count) [] s = absurd s
+times_spelled want (suc count) (z ∷ zs) s = ap (λ (is : List (List ℕ)). spell_item want z ∷ is) (times_spelled want count zs s.1)
