@@ -1,11 +1,10 @@
 -- The definitions compute on the small certificates.
 use Rattle.std.proofs.Common.{refl}
-use Rattle.cert_check.specs.Rows.{row_of}
-use Rattle.cert_check.specs.Causes.{of_leaf}
+use Rattle.cert_check.specs.Causes.{of_leaf, of_rows}
 use Rattle.cert_check.specs.Examples.{Examples}
 
 pub examples : Examples
-unfolding row_of of_leaf
+unfolding of_leaf of_rows
 examples = record {
   none_strict = refl;
   closed = refl;

@@ -1,6 +1,8 @@
 -- The first event of an ordered list at which something is found.
 use Rattle.std.proofs.Common.{◌≡◌, ◌≢◌, ◌↔◌, ℕ, suc, List, [], ◌∷◌, ◌++◌, refl, sym, ◌∙◌, ap, subst}
-use Rattle.cert_check.specs.Causes.{Found, sound, breaks, passes_at, Event, numbered}
+use Rattle.cert_check.specs.declared.found.Found.{Found}
+use Rattle.cert_check.specs.declared.found.Found.TheVariants.{Sound, Breaks, Passes}
+use Rattle.cert_check.specs.Causes.{Event, numbered}
 use Rattle.cert_check.specs.Verdicts.{Verdict, proved, fails, wide, verdict_at, first_of, EachFound, IsSound, IsFirst}
 
 -- what is found at each place is so
@@ -32,10 +34,10 @@ pub sound_first : (es : List Event) → EachFound IsSound es → first_of es ≡
 sound_first [] all = refl
 sound_first (e ∷ es) all = ap (λ f. verdict_at e.lemma e.node f (first_of es)) all.0 ∙ sound_first es all.1
 
-proved_step : (lemma node : ℕ) (found : Found) (rest : Verdict) → verdict_at lemma node found rest ≡ proved → (found ≡ sound) × (rest ≡ proved)
-proved_step lemma node sound rest e = (refl, e)
-proved_step lemma node (breaks cause) rest e = absurd (cc)
-proved_step lemma node (passes_at column) rest e = absurd (cc)
+proved_step : (lemma node : ℕ) (found : Found) (rest : Verdict) → verdict_at lemma node found rest ≡ proved → (found ≡ Sound) × (rest ≡ proved)
+proved_step lemma node Sound rest e = (refl, e)
+proved_step lemma node (Breaks cause) rest e = absurd (cc)
+proved_step lemma node (Passes column) rest e = absurd (cc)
 
 pub first_sound : (es : List Event) → first_of es ≡ proved → EachFound IsSound es
 first_sound [] e = tt
@@ -53,19 +55,19 @@ skip : (before : List Event) (rest : List Event) → EachFound IsSound before �
 skip [] rest all = refl
 skip (e ∷ es) rest all = ap (λ f. verdict_at e.lemma e.node f (first_of (es ++ rest))) all.0 ∙ skip es rest all.1
 
-unskipped : (lemma node : ℕ) (found : Found) (rest : Verdict) → found ≢ sound → verdict_at lemma node found rest ≡ verdict_at lemma node found proved
-unskipped lemma node sound rest some = absurd (some refl)
-unskipped lemma node (breaks cause) rest some = refl
-unskipped lemma node (passes_at column) rest some = refl
+unskipped : (lemma node : ℕ) (found : Found) (rest : Verdict) → found ≢ Sound → verdict_at lemma node found rest ≡ verdict_at lemma node found proved
+unskipped lemma node Sound rest some = absurd (some refl)
+unskipped lemma node (Breaks cause) rest some = refl
+unskipped lemma node (Passes column) rest some = refl
 
 pub IsFirst-verdict : (es : List Event) (e : Event) → IsFirst es e → first_of es ≡ verdict_of e
 IsFirst-verdict es e first =
     ap first_of first.stands ∙ skip first.before (e ∷ first.after) first.all_sound ∙ unskipped e.lemma e.node e.found (first_of first.after) first.found
 
-first_here : (e : Event) (es : List Event) → e.found ≢ sound → IsFirst (e ∷ es) e
+first_here : (e : Event) (es : List Event) → e.found ≢ Sound → IsFirst (e ∷ es) e
 first_here e es some = record { before = []; after = es; stands = refl; all_sound = tt; found = some }
 
-first_later : (x : Event) (es : List Event) (e : Event) → x.found ≡ sound → IsFirst es e → IsFirst (x ∷ es) e
+first_later : (x : Event) (es : List Event) (e : Event) → x.found ≡ Sound → IsFirst es e → IsFirst (x ∷ es) e
 first_later x es e is first = record {
   before = x ∷ first.before;
   after = first.after;
@@ -77,33 +79,33 @@ first_later x es e is first = record {
 -- ---- each answer and its event
 
 abbrev pub failing : ℕ → ℕ → ℕ → Event
-failing lemma node cause = record { lemma = lemma; node = node; found = breaks cause }
+failing lemma node cause = record { lemma = lemma; node = node; found = Breaks cause }
 
 abbrev pub passing : ℕ → ℕ → ℕ → Event
-passing lemma node column = record { lemma = lemma; node = node; found = passes_at column }
+passing lemma node column = record { lemma = lemma; node = node; found = Passes column }
 
 fails_first : (es : List Event) (l n k : ℕ) → first_of es ≡ fails l n k → IsFirst es (failing l n k)
 fails_first [] l n k v = absurd (cc)
 fails_first (x ∷ es) l n k v = by x.lemma x.node x.found v (fails_first es l n k)
   where
     by : (lemma node : ℕ) (found : Found) → verdict_at lemma node found (first_of es) ≡ fails l n k → (first_of es ≡ fails l n k → IsFirst es (failing l n k)) → IsFirst (record { lemma = lemma; node = node; found = found } ∷ es) (failing l n k)
-    by lemma node sound v rest =
-        first_later (record { lemma = lemma; node = node; found = sound }) es (failing l n k) refl (rest v)
-    by lemma node (breaks cause) v rest =
+    by lemma node Sound v rest =
+        first_later (record { lemma = lemma; node = node; found = Sound }) es (failing l n k) refl (rest v)
+    by lemma node (Breaks cause) v rest =
         let p : l ≡ lemma = cc in let q : n ≡ node = cc in let r : k ≡ cause = cc in
         let same : failing l n k ≡ failing lemma node cause = ap (λ x. failing x n k) p ∙ ap (λ x. failing lemma x k) q ∙ ap (failing lemma node) r in
         subst (λ (e : Event). IsFirst (e ∷ es) (failing l n k)) same (first_here (failing l n k) es (λ e. cc))
-    by lemma node (passes_at column) v rest = absurd (cc)
+    by lemma node (Passes column) v rest = absurd (cc)
 
 passes_first : (es : List Event) (l n k : ℕ) → first_of es ≡ wide l n k → IsFirst es (passing l n k)
 passes_first [] l n k v = absurd (cc)
 passes_first (x ∷ es) l n k v = by x.lemma x.node x.found v (passes_first es l n k)
   where
     by : (lemma node : ℕ) (found : Found) → verdict_at lemma node found (first_of es) ≡ wide l n k → (first_of es ≡ wide l n k → IsFirst es (passing l n k)) → IsFirst (record { lemma = lemma; node = node; found = found } ∷ es) (passing l n k)
-    by lemma node sound v rest =
-        first_later (record { lemma = lemma; node = node; found = sound }) es (passing l n k) refl (rest v)
-    by lemma node (breaks cause) v rest = absurd (cc)
-    by lemma node (passes_at column) v rest =
+    by lemma node Sound v rest =
+        first_later (record { lemma = lemma; node = node; found = Sound }) es (passing l n k) refl (rest v)
+    by lemma node (Breaks cause) v rest = absurd (cc)
+    by lemma node (Passes column) v rest =
         let p : l ≡ lemma = cc in let q : n ≡ node = cc in let r : k ≡ column = cc in
         let same : passing l n k ≡ passing lemma node column = ap (λ x. passing x n k) p ∙ ap (λ x. passing lemma x k) q ∙ ap (passing lemma node) r in
         subst (λ (e : Event). IsFirst (e ∷ es) (passing l n k)) same (first_here (passing l n k) es (λ e. cc))
@@ -122,14 +124,14 @@ event lemma node f = record { lemma = lemma; node = node; found = f }
 same_numbers : (f : ℕ → ℕ → ℕ → Event) (a b c x y z : ℕ) → a ≡ x → b ≡ y → c ≡ z → f a b c ≡ f x y z
 same_numbers f a b c x y z p q r = ap (λ n. f n b c) p ∙ ap (λ n. f x n c) q ∙ ap (f x y) r
 
-same_event : (l n : ℕ) (f : Found) (m k : ℕ) (g : Found) → f ≢ sound → g ≢ sound → verdict_at l n f proved ≡ verdict_at m k g proved → event l n f ≡ event m k g
-same_event l n sound m k g some_f some_g e = absurd (some_f refl)
-same_event l n (breaks c) m k sound some_f some_g e = absurd (some_g refl)
-same_event l n (breaks c) m k (breaks d) some_f some_g e = same_numbers failing l n c m k d (cc) (cc) (cc)
-same_event l n (breaks c) m k (passes_at d) some_f some_g e = absurd (cc)
-same_event l n (passes_at c) m k sound some_f some_g e = absurd (some_g refl)
-same_event l n (passes_at c) m k (breaks d) some_f some_g e = absurd (cc)
-same_event l n (passes_at c) m k (passes_at d) some_f some_g e = same_numbers passing l n c m k d (cc) (cc) (cc)
+same_event : (l n : ℕ) (f : Found) (m k : ℕ) (g : Found) → f ≢ Sound → g ≢ Sound → verdict_at l n f proved ≡ verdict_at m k g proved → event l n f ≡ event m k g
+same_event l n Sound m k g some_f some_g e = absurd (some_f refl)
+same_event l n (Breaks c) m k Sound some_f some_g e = absurd (some_g refl)
+same_event l n (Breaks c) m k (Breaks d) some_f some_g e = same_numbers failing l n c m k d (cc) (cc) (cc)
+same_event l n (Breaks c) m k (Passes d) some_f some_g e = absurd (cc)
+same_event l n (Passes c) m k Sound some_f some_g e = absurd (some_g refl)
+same_event l n (Passes c) m k (Breaks d) some_f some_g e = absurd (cc)
+same_event l n (Passes c) m k (Passes d) some_f some_g e = same_numbers passing l n c m k d (cc) (cc) (cc)
 
 pub one_first : (es : List Event) (a b : Event) → IsFirst es a → IsFirst es b → a ≡ b
 one_first es a b p q =

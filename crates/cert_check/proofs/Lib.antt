@@ -1,6 +1,14 @@
+pub mod Columns
 pub mod WeighedRows
 pub mod NoModel
 pub mod FirstLaws
 pub mod CauseLaws
 pub mod VerdictLaws
 pub mod ExampleLaws
+pub mod PathLaws
+pub mod SumLaws
+pub mod LeafLaws
+pub mod LemmaLaws
+pub mod AnswerLaws
+pub mod TreeLaws
+pub mod SmallProblems

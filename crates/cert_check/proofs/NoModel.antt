@@ -1,13 +1,13 @@
 -- The clauses for which a certificate proves have no model.
-use Rattle.std.proofs.Common.{◌≡◌, ℕ, zero, suc, ◌≤◌, List, [], ◌∷◌, ◌++◌, map, ℤ, Bool, true, false, not, ◌⊎◌, inl, inr, Option, None, Some, slice_get, refl, sym, ◌∙◌, ap, subst}
+use Rattle.std.proofs.Common.{◌≡◌, ℕ, zero, suc, ◌≤◌, List, [], ◌∷◌, ◌++◌, map, ℤ, Bool, true, false, not, ◌⊎◌, inl, inr, Some, slice_get, refl, sym, ◌∙◌, ap, subst}
 use Rattle.farkas_cert.specs.Literals.{negation}
 use Rattle.farkas_cert.specs.Trees.{Tree, split, farkas, clause, Derived, lemmas_of}
 use Rattle.farkas_cert.specs.declared.literals.Lit.{Lit}
-use Rattle.clause_form.specs.declared.clauses.Clauses.{Clauses}
-use Rattle.clause_form.specs.Models.{RowsAgree, HasTrue, Satisfies}
-use Rattle.cert_check.specs.Paths.{IsFalseOn, CitesFalse, Closes}
-use Rattle.cert_check.specs.Derivations.{Derives, EndsEmpty, ProvedHaveNoModel}
-use Rattle.cert_check.proofs.WeighedRows.{AllTrue, truth_on-true, no_contradiction}
+use Rattle.clause_form.specs.Derivations.{Rows, rows_of, IsFalseOn, Closes, Follow, EndsEmpty}
+use Rattle.clause_form.specs.Models.{HasTrue, Satisfies}
+use Rattle.cert_check.specs.NoModel.{HasColumnsBelow, ProvedHaveNoModel}
+use Rattle.cert_check.proofs.Columns.{all_cancel}
+use Rattle.cert_check.proofs.WeighedRows.{AllTrue, Has-true, Agree, no_contradiction}
 
 not_both : (a b : Bool) → a ≡ b → a ≡ not b → ⊥
 not_both a true p q = absurd (cc)
@@ -16,7 +16,7 @@ not_both a false p q = absurd (cc)
 none_true : (truth : ℕ → Bool) (path : List Lit) → AllTrue truth path → (lits : List Lit) → IsFalseOn path lits → HasTrue truth lits → ⊥
 none_true truth path all [] false_ones has = has
 none_true truth path all (l ∷ ls) false_ones (inl is) =
-    not_both (truth l.atom) l.positive is (truth_on-true truth path all l.atom (not l.positive) false_ones.0)
+    not_both (truth l.atom) l.positive is (Has-true truth path all (negation l) false_ones.0)
 none_true truth path all (l ∷ ls) false_ones (inr has) = none_true truth path all ls false_ones.1 has
 
 satisfied_at : (truth : ℕ → Bool) (known : List (List Lit)) → Satisfies truth known → (number : ℕ) (lits : List Lit) → slice_get known number ≡ Some lits → HasTrue truth lits
@@ -25,20 +25,18 @@ satisfied_at truth (k ∷ ks) all zero lits e = let same : k ≡ lits = cc in su
 satisfied_at truth (k ∷ ks) all (suc n) lits e = satisfied_at truth ks all.1 n lits e
 
 -- a path whose literals are all true isn't closed
-never_closed : (c : Clauses) (value : ℕ → ℤ) (over : ℕ) (truth : ℕ → Bool) → 1 ≤ over → RowsAgree c value over truth → (known : List (List Lit)) → Satisfies truth known → (path : List Lit) → AllTrue truth path → (tree : Tree) → Closes c known path tree → ⊥
-never_closed c value over truth some agree known holds path all (split atom held failed) closes =
-    by (truth atom) refl (λ is. never_closed c value over truth some agree known holds (record { atom = atom; positive = true } ∷ path) (is, all) held closes.2) (λ is. never_closed c value over truth some agree known holds (record { atom = atom; positive = false } ∷ path) (is, all) failed closes.3)
+never_closed : (c : Rows) → HasColumnsBelow c.columns c.forms → (value : ℕ → ℤ) (over : ℕ) (truth : ℕ → Bool) → 1 ≤ over → Agree c value over truth → (known : List (List Lit)) → Satisfies truth known → (path : List Lit) → AllTrue truth path → (tree : Tree) → Closes c known tree path → ⊥
+never_closed c less value over truth some agree known holds path all (split atom held failed) closes =
+    by (truth atom) refl (λ is. never_closed c less value over truth some agree known holds (record { atom = atom; positive = true } ∷ path) (is, all) held closes.2) (λ is. never_closed c less value over truth some agree known holds (record { atom = atom; positive = false } ∷ path) (is, all) failed closes.3)
   where
     by : (sign : Bool) → truth atom ≡ sign → (truth atom ≡ true → ⊥) → (truth atom ≡ false → ⊥) → ⊥
     by true is if_true if_false = if_true is
     by false is if_true if_false = if_false is
-never_closed c value over truth some agree known holds path all (farkas parts) closes =
-    no_contradiction c value over truth path some agree all parts closes.0 closes.1
-never_closed c value over truth some agree known holds path all (clause number) closes = by (slice_get known number) refl closes
-  where
-    by : (cited : Option (List Lit)) → slice_get known number ≡ cited → CitesFalse path cited → ⊥
-    by None e cites = cites
-    by (Some lits) e cites = none_true truth path all lits cites (satisfied_at truth known holds number lits e)
+never_closed c less value over truth some agree known holds path all (farkas parts) closes =
+    no_contradiction c value over truth path some agree all parts (all_cancel c less path parts closes) closes
+never_closed c less value over truth some agree known holds path all (clause number) closes =
+    let lits : List Lit = closes.0 in
+    none_true truth path all lits closes.2 (satisfied_at truth known holds number lits closes.1)
 
 -- a clause has a true literal, or the negations of its literals are all true
 true_or_not : (truth : ℕ → Bool) (lits : List Lit) → HasTrue truth lits ⊎ AllTrue truth (map negation lits)
@@ -58,20 +56,20 @@ Satisfies-push truth [] lits all has = (has, tt)
 Satisfies-push truth (k ∷ ks) lits all has = (all.0, Satisfies-push truth ks lits all.1 has)
 
 -- each derived clause is true, and so none is empty
-never_empty : (c : Clauses) (value : ℕ → ℤ) (over : ℕ) (truth : ℕ → Bool) → 1 ≤ over → RowsAgree c value over truth → (known : List (List Lit)) → Satisfies truth known → (lemmas : List Derived) → Derives c known lemmas → EndsEmpty lemmas → ⊥
-never_empty c value over truth some agree known holds [] derived ends = ends
-never_empty c value over truth some agree known holds (d ∷ []) derived ends = by (true_or_not truth d.lits)
+never_empty : (c : Rows) → HasColumnsBelow c.columns c.forms → (value : ℕ → ℤ) (over : ℕ) (truth : ℕ → Bool) → 1 ≤ over → Agree c value over truth → (known : List (List Lit)) → Satisfies truth known → (lemmas : List Derived) → Follow c known lemmas → EndsEmpty lemmas → ⊥
+never_empty c less value over truth some agree known holds [] derived ends = ends
+never_empty c less value over truth some agree known holds (d ∷ []) derived ends = by (true_or_not truth d.lits)
   where
     by : HasTrue truth d.lits ⊎ AllTrue truth (map negation d.lits) → ⊥
     by (inl has) = subst (HasTrue truth) ends has
-    by (inr all) = never_closed c value over truth some agree known holds (map negation d.lits) all d.tree derived.1
-never_empty c value over truth some agree known holds (d ∷ e ∷ es) derived ends =
-    by (true_or_not truth d.lits) (λ has. never_empty c value over truth some agree (known ++ d.lits ∷ []) (Satisfies-push truth known d.lits holds has) (e ∷ es) derived.2 ends)
+    by (inr all) = never_closed c less value over truth some agree known holds (map negation d.lits) all d.tree derived.1
+never_empty c less value over truth some agree known holds (d ∷ e ∷ es) derived ends =
+    by (true_or_not truth d.lits) (λ has. never_empty c less value over truth some agree (known ++ d.lits ∷ []) (Satisfies-push truth known d.lits holds has) (e ∷ es) derived.2 ends)
   where
     by : HasTrue truth d.lits ⊎ AllTrue truth (map negation d.lits) → (HasTrue truth d.lits → ⊥) → ⊥
     by (inl has) next = next has
-    by (inr all) next = never_closed c value over truth some agree known holds (map negation d.lits) all d.tree derived.1
+    by (inr all) next = never_closed c less value over truth some agree known holds (map negation d.lits) all d.tree derived.1
 
 pub no_model : ProvedHaveNoModel
-no_model c cert proves value over truth some model =
-    never_empty c value over truth some model.rows c.clauses model.clauses (lemmas_of cert) proves.derived proves.ends_empty
+no_model c cert less proves value over truth some model =
+    never_empty (rows_of c) less value over truth some model.rows c.clauses model.clauses (lemmas_of cert) proves.lemmas proves.ends

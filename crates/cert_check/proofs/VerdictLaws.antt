@@ -6,10 +6,10 @@ use Rattle.cert_check.proofs.CauseLaws.{events-prove, prove-events, within-event
 
 pub each_has_a_verdict : EachHasAVerdict
 unfolding verdict
-each_has_a_verdict c cert less = record {
+each_has_a_verdict c cert = record {
   proves = (
-    λ v. (events-prove c cert less (first_sound (events c cert) v), within-events (events c cert) (first_sound (events c cert) v)),
-    λ h. sound_first (events c cert) (prove-events c cert less h.0 h.1),
+    λ v. (events-prove c cert (first_sound (events c cert) v), within-events (events c cert) (first_sound (events c cert) v)),
+    λ h. sound_first (events c cert) (prove-events c cert h.0 h.1),
   );
   failed = λ lemma node cause. first_fails (events c cert) lemma node cause;
   passed = λ lemma node column. first_wide (events c cert) lemma node column;

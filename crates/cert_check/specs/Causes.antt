@@ -13,26 +13,26 @@ use Rattle.farkas_cert.specs.declared.literals.Lit.{Lit}
 use Rattle.farkas_cert.specs.declared.trees.Part.{Part}
 use Rattle.farkas_cert.specs.declared.certificates.Cert.{Cert}
 use Rattle.clause_form.specs.declared.clauses.Clauses.{Clauses}
-use Rattle.cert_check.specs.Rows.{LinearRow, row_of, coef_in, weighed_sum}
-use Rattle.cert_check.specs.Paths.{truth_on}
-
--- what is found at one place: nothing, a cause by its number, or a column whose running sum passes 128 bits
-pub data Found : Type 0 where
-  sound : Found
-  breaks : ℕ → Found
-  passes_at : ℕ → Found
+use Rattle.cert_check.specs.declared.found.Found.{Found}
+use Rattle.cert_check.specs.declared.found.Found.TheVariants.{Sound, Breaks, Passes}
+use Rattle.clause_form.specs.Derivations.{Rows, rows_of, LitRow, row_of, row_coef, coef_sum, bound_sum, running_sum}
 
 -- the next is asked only where nothing was found
 abbrev pub then_ask : Found → Found → Found
-then_ask sound next = next
-then_ask (breaks cause) next = breaks cause
-then_ask (passes_at column) next = passes_at column
+then_ask Sound next = next
+then_ask (Breaks cause) next = Breaks cause
+then_ask (Passes column) next = Passes column
 
 -- the cause, unless the test holds
 abbrev pub asked : ℕ → Bool → Found
-asked cause test = if test then sound else breaks cause
+asked cause test = if test then Sound else Breaks cause
 
 -- ---- tests of literals and parts
+
+-- the truth that the literals of a path give an atom, if they name it
+abbrev pub truth_on : List Lit → ℕ → Option Bool
+truth_on [] atom = None
+truth_on (l ∷ ls) atom = if l.atom == atom then Some l.positive else truth_on ls atom
 
 abbrev pub is_sign : Bool → Option Bool → Bool
 is_sign sign None = false
@@ -47,65 +47,59 @@ is_free None = true
 is_free (Some s) = false
 
 -- a literal that is in a row and on the path, with a multiplier of at least 0
-abbrev pub of_part : Clauses → List Lit → Part → Found
+abbrev pub of_part : Rows → List Lit → Part → Found
 of_part c path p =
     then_ask (asked 2 (nat_lt p.lit.atom (length c.atoms))) (then_ask (asked 7 (is_on_path path p.lit && is_some (row_of c p.lit))) (asked 4 (not (is_negative p.mult))))
 
-abbrev pub of_parts : Clauses → List Lit → List Part → Found
-of_parts c path [] = sound
+abbrev pub of_parts : Rows → List Lit → List Part → Found
+of_parts c path [] = Sound
 of_parts c path (p ∷ ps) = then_ask (of_part c path p) (of_parts c path ps)
 
 -- ---- the sums of a leaf
 
 -- the row's coefficient at a column, and under the number of columns its bound
-abbrev pub number_at : Clauses → ℕ → LinearRow → ℤ
-number_at c column row = if nat_lt column c.columns then coef_in column row else row.bound
-
-abbrev pub number_of : (LinearRow → ℤ) → Option LinearRow → ℤ
-number_of number None = pos 0
-number_of number (Some row) = number row
-
--- the sum from a start on, part by part, each product and each sum within 128 bits
-abbrev pub running_weighed : Clauses → (LinearRow → ℤ) → ℤ → List Part → Option ℤ
-running_weighed c number sum [] = Some sum
-running_weighed c number sum (p ∷ ps) = option_and_then (λ s. running_weighed c number s ps) (fma sum p.mult (number_of number (row_of c p.lit)))
+abbrev pub number_at : Rows → ℕ → LitRow → ℤ
+number_at c column row = if nat_lt column c.columns then row_coef column row else row.bound
 
 abbrev pub of_sum : ℕ → Option ℤ → Found
-of_sum column None = passes_at column
-of_sum column (Some sum) = sound
+of_sum column None = Passes column
+of_sum column (Some sum) = Sound
 
 -- the sums below a number of columns, the least column first
-abbrev pub of_sums : Clauses → List Part → ℕ → Found
-of_sums c parts zero = sound
-of_sums c parts (suc n) = then_ask (of_sums c parts n) (of_sum n (running_weighed c (number_at c n) (pos 0) parts))
+abbrev pub of_sums : Rows → List Part → ℕ → Found
+of_sums c parts zero = Sound
+of_sums c parts (suc n) = then_ask (of_sums c parts n) (of_sum n (running_sum c (number_at c n) (pos 0) parts))
 
 -- the multiplied coefficients of each column below a number sum to 0
-abbrev pub cancel_below : Clauses → List Part → ℕ → Bool
+abbrev pub cancel_below : Rows → List Part → ℕ → Bool
 cancel_below c parts zero = true
-cancel_below c parts (suc n) = cancel_below c parts n && int_eq (weighed_sum c (coef_in n) parts) (pos 0)
+cancel_below c parts (suc n) = cancel_below c parts n && int_eq (coef_sum c n parts) (pos 0)
 
-abbrev pub is_strict : Option LinearRow → Bool
+abbrev pub is_strict : Option LitRow → Bool
 is_strict None = false
 is_strict (Some row) = row.strict
 
 -- a strict row has a multiplier above 0
-abbrev pub some_strict : Clauses → List Part → Bool
+abbrev pub some_strict : Rows → List Part → Bool
 some_strict c [] = false
 some_strict c (p ∷ ps) = (is_strict (row_of c p.lit) && is_positive p.mult) || some_strict c ps
 
 abbrev pub is_impossible : ℤ → Bool → Bool
 is_impossible sum strict = is_negative sum || (int_eq sum (pos 0) && strict)
 
-abbrev pub is_contradiction : Clauses → List Part → Bool
+abbrev pub is_contradiction : Rows → List Part → Bool
 is_contradiction c parts =
-    cancel_below c parts c.columns && is_impossible (weighed_sum c (λ row. row.bound) parts) (some_strict c parts)
+    cancel_below c parts c.columns && is_impossible (bound_sum c parts) (some_strict c parts)
 
 -- ---- nodes
 
+-- the sums of the rows, and then whether they contradict
+unfoldable pub of_rows : Rows → List Part → Found
+of_rows c parts = then_ask (of_sums c parts (suc c.columns)) (asked 3 (is_contradiction c parts))
+
 -- a Farkas leaf: its parts in order, then its sums, then what they come to
-unfoldable pub of_leaf : Clauses → List Lit → List Part → Found
-of_leaf c path parts =
-    then_ask (of_parts c path parts) (then_ask (of_sums c parts (suc c.columns)) (asked 3 (is_contradiction c parts)))
+unfoldable pub of_leaf : Rows → List Lit → List Part → Found
+of_leaf c path parts = then_ask (of_parts c path parts) (of_rows c parts)
 
 abbrev pub is_false_on : List Lit → List Lit → Bool
 is_false_on path [] = true
@@ -113,15 +107,15 @@ is_false_on path (l ∷ ls) = is_on_path path (negation l) && is_false_on path l
 
 -- a leaf that cites a clause
 abbrev pub of_cited : List Lit → Option (List Lit) → Found
-of_cited path None = breaks 6
+of_cited path None = Breaks 6
 of_cited path (Some lits) = asked 5 (is_false_on path lits)
 
 -- a split, whose atom is in range and not on the path
-abbrev pub of_split : Clauses → List Lit → ℕ → Found
+abbrev pub of_split : Rows → List Lit → ℕ → Found
 of_split c path atom = asked 2 (nat_lt atom (length c.atoms) && is_free (truth_on path atom))
 
 -- what is found at the nodes of a tree, in prefix order
-abbrev pub founds : Clauses → List (List Lit) → List Lit → Tree → List Found
+abbrev pub founds : Rows → List (List Lit) → List Lit → Tree → List Found
 founds c known path (split atom held failed) =
     of_split c path atom ∷ (founds c known (record { atom = atom; positive = true } ∷ path) held ++ founds c known (record { atom = atom; positive = false } ∷ path) failed)
 founds c known path (farkas parts) = of_leaf c path parts ∷ []
@@ -144,11 +138,15 @@ abbrev pub numbered : ℕ → ℕ → List Found → List Event
 numbered lemma node [] = []
 numbered lemma node (f ∷ fs) = record { lemma = lemma; node = node; found = f } ∷ numbered lemma (suc node) fs
 
+-- what is found at a lemma: at its clause, and then at the nodes of its tree
+abbrev pub lemma_founds : Rows → List (List Lit) → Derived → List Found
+lemma_founds c known d = asked 2 (names_once (length c.atoms) d.lits) ∷ founds c known (map negation d.lits) d.tree
+
 -- one lemma after the other, each with the clauses before it
-abbrev pub lemma_events : Clauses → List (List Lit) → ℕ → List Derived → List Event
+abbrev pub lemma_events : Rows → List (List Lit) → ℕ → List Derived → List Event
 lemma_events c known lemma [] = []
 lemma_events c known lemma (d ∷ ds) =
-    numbered lemma 0 (asked 2 (names_once (length c.atoms) d.lits) ∷ founds c known (map negation d.lits) d.tree) ++ lemma_events c (known ++ d.lits ∷ []) (suc lemma) ds
+    numbered lemma 0 (lemma_founds c known d) ++ lemma_events c (known ++ d.lits ∷ []) (suc lemma) ds
 
 abbrev pub has_sizes : Clauses → Cert → Bool
 has_sizes c cert = (cert.columns == c.columns) && ((cert.atoms == length c.atoms) && (cert.clauses == length c.clauses))
@@ -159,11 +157,11 @@ is_empty (l ∷ ls) = false
 
 -- whether the last clause is empty, asked under the number of the last lemma
 abbrev pub end_event : ℕ → List Derived → Event
-end_event lemma [] = record { lemma = lemma; node = 0; found = breaks 8 }
+end_event lemma [] = record { lemma = lemma; node = 0; found = Breaks 8 }
 end_event lemma (d ∷ []) = record { lemma = lemma; node = 0; found = asked 8 (is_empty d.lits) }
 end_event lemma (d ∷ e ∷ ds) = end_event (suc lemma) (e ∷ ds)
 
 -- everything that is asked of a certificate, in order
 unfoldable pub events : Clauses → Cert → List Event
 events c cert =
-    record { lemma = 0; node = 0; found = asked 1 (has_sizes c cert) } ∷ (lemma_events c c.clauses 0 (lemmas_of cert) ++ end_event 0 (lemmas_of cert) ∷ [])
+    record { lemma = 0; node = 0; found = asked 1 (has_sizes c cert) } ∷ (lemma_events (rows_of c) c.clauses 0 (lemmas_of cert) ++ end_event 0 (lemmas_of cert) ∷ [])

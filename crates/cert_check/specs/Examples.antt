@@ -4,6 +4,7 @@ use Rattle.farkas_cert.specs.Trees.{Tree, split, farkas, clause, Derived}
 use Rattle.farkas_cert.specs.declared.trees.Part.{Part}
 use Rattle.clause_form.specs.declared.clauses.Atom.TheVariants.{Row}
 use Rattle.clause_form.specs.declared.clauses.Clauses.{Clauses}
+use Rattle.clause_form.specs.Derivations.{rows_of}
 use Rattle.cert_check.specs.Causes.{lemma_events, end_event}
 use Rattle.cert_check.specs.Verdicts.{Verdict, proved, fails, wide, first_of}
 
@@ -20,7 +21,7 @@ problem strict bound = record {
 
 -- the verdict on lemmas for clauses of the same sizes
 abbrev pub judged : Clauses → List Derived → Verdict
-judged c lemmas = first_of (lemma_events c c.clauses 0 lemmas ++ end_event 0 lemmas ∷ [])
+judged c lemmas = first_of (lemma_events (rows_of c) c.clauses 0 lemmas ++ end_event 0 lemmas ∷ [])
 
 -- a lemma that is the empty clause
 abbrev pub empty_by : Tree → Derived

@@ -1,11 +1,11 @@
 -- What a certificate comes to: it proves, or there is a first place at which it fails or a sum passes.
 use Rattle.std.specs.Prelude.{◌≡◌, ◌≢◌, ◌↔◌, ◌<◌, ℕ, List, [], ◌∷◌, ◌++◌}
-use Rattle.linear_form.specs.declared.lists.Form.{Form}
-use Rattle.linear_form.specs.declared.lists.Term.{Term}
 use Rattle.farkas_cert.specs.declared.certificates.Cert.{Cert}
 use Rattle.clause_form.specs.declared.clauses.Clauses.{Clauses}
-use Rattle.cert_check.specs.Causes.{Found, sound, breaks, passes_at, Event, events}
-use Rattle.cert_check.specs.Derivations.{Proves}
+use Rattle.clause_form.specs.Derivations.{Proves}
+use Rattle.cert_check.specs.declared.found.Found.{Found}
+use Rattle.cert_check.specs.declared.found.Found.TheVariants.{Sound, Breaks, Passes}
+use Rattle.cert_check.specs.Causes.{Event, events}
 
 pub data Verdict : Type 0 where
   proved : Verdict
@@ -13,9 +13,9 @@ pub data Verdict : Type 0 where
   wide : ℕ → ℕ → ℕ → Verdict  -- lemma, node, column
 
 abbrev pub verdict_at : ℕ → ℕ → Found → Verdict → Verdict
-verdict_at lemma node sound rest = rest
-verdict_at lemma node (breaks cause) rest = fails lemma node cause
-verdict_at lemma node (passes_at column) rest = wide lemma node column
+verdict_at lemma node Sound rest = rest
+verdict_at lemma node (Breaks cause) rest = fails lemma node cause
+verdict_at lemma node (Passes column) rest = wide lemma node column
 
 -- the first event at which something was found
 abbrev pub first_of : List Event → Verdict
@@ -31,11 +31,11 @@ EachFound P [] = Unit {0}
 EachFound P (e ∷ es) = P e.found × EachFound P es
 
 abbrev pub IsSound : Found → Type 0
-IsSound found = found ≡ sound
+IsSound found = found ≡ Sound
 
 -- no running sum passes here
 abbrev pub StaysWithin : Found → Type 0
-StaysWithin found = (column : ℕ) → found ≢ passes_at column
+StaysWithin found = (column : ℕ) → found ≢ Passes column
 
 -- the event is the first at which something is found
 pub record IsFirst (all : List Event) (event : Event) : Type 0 where
@@ -43,24 +43,15 @@ pub record IsFirst (all : List Event) (event : Event) : Type 0 where
   pub after : List Event
   pub stands : all ≡ before ++ event ∷ after
   pub all_sound : EachFound IsSound before
-  pub found : event.found ≢ sound
-
-abbrev pub TermsBelow : ℕ → List Term → Type 0
-TermsBelow columns [] = Unit {0}
-TermsBelow columns (t ∷ ts) = (t.column < columns) × TermsBelow columns ts
-
--- the terms of each form are of columns below this number
-abbrev pub HasColumnsBelow : ℕ → List Form → Type 0
-HasColumnsBelow columns [] = Unit {0}
-HasColumnsBelow columns (f ∷ fs) = TermsBelow columns f.terms × HasColumnsBelow columns fs
+  pub found : event.found ≢ Sound
 
 -- exactly what proves, without a sum that passes, is proved; everything else has a first event
 pub record IsVerdict (c : Clauses) (cert : Cert) (v : Verdict) : Type 0 where
   pub proves : (v ≡ proved) ↔ (Proves c cert × EachFound StaysWithin (events c cert))
-  pub failed : (lemma node cause : ℕ) → (v ≡ fails lemma node cause) ↔ IsFirst (events c cert) (record { lemma = lemma; node = node; found = breaks cause })
-  pub passed : (lemma node column : ℕ) → (v ≡ wide lemma node column) ↔ IsFirst (events c cert) (record { lemma = lemma; node = node; found = passes_at column })
+  pub failed : (lemma node cause : ℕ) → (v ≡ fails lemma node cause) ↔ IsFirst (events c cert) (record { lemma = lemma; node = node; found = Breaks cause })
+  pub passed : (lemma node column : ℕ) → (v ≡ wide lemma node column) ↔ IsFirst (events c cert) (record { lemma = lemma; node = node; found = Passes column })
   pub one : (a b : Event) → IsFirst (events c cert) a → IsFirst (events c cert) b → a ≡ b
 
 -- every certificate has a verdict, and only one
 abbrev pub EachHasAVerdict : Type 0
-EachHasAVerdict = (c : Clauses) (cert : Cert) → HasColumnsBelow c.columns c.forms → IsVerdict c cert (verdict c cert)
+EachHasAVerdict = (c : Clauses) (cert : Cert) → IsVerdict c cert (verdict c cert)

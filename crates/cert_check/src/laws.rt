@@ -1,5 +1,5 @@
 // What a certificate that proves means, as calls that do nothing.
-ghost use Rattle.cert_check.specs.Derivations.{ProvedHaveNoModel};
+ghost use Rattle.cert_check.specs.NoModel.{ProvedHaveNoModel};
 ghost use Rattle.cert_check.specs.Examples.{Examples};
 ghost use Rattle.cert_check.specs.Verdicts.{EachHasAVerdict};
 

@@ -57,14 +57,21 @@ abbrev pub Has : Lit → List Lit → Type 0
 Has l [] = ⊥
 Has l (m ∷ ms) = (l ≡ m) ⊎ Has l ms
 
+-- a number of a row, and 0 where there is no row
+abbrev pub number_in : (LitRow → ℤ) → Option LitRow → ℤ
+number_in number row = option_map_or number row (pos 0)
+
+-- the multiplied numbers of all rows together
+abbrev pub weighed_sum : Rows → (LitRow → ℤ) → List Part → ℤ
+weighed_sum c number [] = pos 0
+weighed_sum c number (p ∷ ps) = p.mult *ℤ number_in number (row_of c p.lit) +ℤ weighed_sum c number ps
+
 -- the multiplied rows' coefficients of a column, and their bounds, each added up
 abbrev pub coef_sum : Rows → ℕ → List Part → ℤ
-coef_sum c column [] = pos 0
-coef_sum c column (p ∷ ps) = p.mult *ℤ option_map_or (row_coef column) (row_of c p.lit) (pos 0) +ℤ coef_sum c column ps
+coef_sum c column parts = weighed_sum c (row_coef column) parts
 
 abbrev pub bound_sum : Rows → List Part → ℤ
-bound_sum c [] = pos 0
-bound_sum c (p ∷ ps) = p.mult *ℤ option_map_or (λ row. row.bound) (row_of c p.lit) (pos 0) +ℤ bound_sum c ps
+bound_sum c parts = weighed_sum c (λ row. row.bound) parts
 
 -- each part's literal is on the path and of a row, and no multiplier is below 0
 abbrev pub ArePartsOf : Rows → List Lit → List Part → Type 0
@@ -82,14 +89,16 @@ pub record IsContradiction (c : Rows) (path : List Lit) (parts : List Part) : Ty
   pub columns : (column : ℕ) → column < c.columns → coef_sum c column parts ≡ pos 0
   pub bound : (bound_sum c parts <ℤ pos 0) ⊎ ((bound_sum c parts ≡ pos 0) × HasStrict c parts)
 
--- the same sums taken part by part within 128 bits, as a checker takes them; none where one passes
+-- the same sums from a start on, taken part by part within 128 bits, as a checker takes them; none where one passes
+abbrev pub running_sum : Rows → (LitRow → ℤ) → ℤ → List Part → Option ℤ
+running_sum c number sum [] = Some sum
+running_sum c number sum (p ∷ ps) = option_and_then (λ s. running_sum c number s ps) (fma sum p.mult (number_in number (row_of c p.lit)))
+
 abbrev pub coef_running : Rows → ℕ → ℤ → List Part → Option ℤ
-coef_running c column sum [] = Some sum
-coef_running c column sum (p ∷ ps) = option_and_then (λ s. coef_running c column s ps) (fma sum p.mult (option_map_or (row_coef column) (row_of c p.lit) (pos 0)))
+coef_running c column sum parts = running_sum c (row_coef column) sum parts
 
 abbrev pub bound_running : Rows → ℤ → List Part → Option ℤ
-bound_running c sum [] = Some sum
-bound_running c sum (p ∷ ps) = option_and_then (λ s. bound_running c s ps) (fma sum p.mult (option_map_or (λ row. row.bound) (row_of c p.lit) (pos 0)))
+bound_running c sum parts = running_sum c (λ row. row.bound) sum parts
 
 pub record SumsFit (c : Rows) (parts : List Part) : Type 0 where
   pub columns : (column : ℕ) → column < c.columns → IsSome (coef_running c column (pos 0) parts)
