@@ -1,0 +1,9 @@
+use Rattle.std.specs.Prelude.{◌≡◌}
+use Rattle.claims.specs.Subjects.{each_flow, part}
+use Rattle.ctrl_meaning.specs.Flows.{opening_claims}
+use Rattle.unroll.specs.ClaimFormulas.{claim_formulas, trees}
+use Rattle.unroll.proofs.flow_rows.opening_row.Given as goal
+
+-- the formulas of the flows so far
+abbrev pub invariant-loop-index : goal.invariant-loop-index
+invariant-loop-index l = trees l.formulas.items ≡ claim_formulas l.shape (each_flow (opening_claims part l.controller l.row) l.index)

@@ -1,0 +1,10 @@
+pub mod Sums
+pub mod ClaimFormulas
+pub mod FlowLimits
+pub mod FlowFormulas
+pub mod QuestionLimits
+pub mod QuestionFormulas
+pub mod Shapes
+pub mod Sizes
+pub mod Problems
+pub mod Example
