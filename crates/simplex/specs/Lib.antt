@@ -1,0 +1,14 @@
+pub mod Limits
+pub mod Keeping
+pub mod Corners
+pub mod Moves
+pub mod Shares
+pub mod States
+pub mod Assignments
+pub mod Choices
+pub mod Holders
+pub mod Bounds
+pub mod Checks
+pub mod Turns
+pub mod Settings
+pub mod Columns
