@@ -1,16 +1,18 @@
 -- What is known of a fetch that came after another one.
-use Rattle.std.proofs.Common.{subst, ℕ, ◌<◌, ◌≤◌, inl, inr, List, [], ◌∷◌, length, Err, arith}
+use Rattle.std.proofs.Common.{◌≡◌, subst, ℕ, ◌<◌, ◌≤◌, inl, inr, List, length, Result, arith}
 use Rattle.std.specs.Prelude.{IfSome}
-use Rattle.ccac_ports.specs.Ports.{HasRisen, Tells}
-use Rattle.ccac_cli.specs.Commands.{Order, file}
-use Rattle.ccac_cli.specs.Ended.{AreFetched, OrderAnswers}
-use Rattle.ccac_cli.specs.Fetched.{FetchEnds, IsFetched, IsLater, Told, faulty, longer}
-use Rattle.ccac_cli.specs.Halted.{HaltsAt}
+use Rattle.ccac_ports.specs.Ports.{HasRisen, Tells, Told}
+use Rattle.ccac_cli.specs.Commands.{Order}
+use Rattle.ccac_cli.specs.Ended.{OrderAnswers, had_three}
+use Rattle.ccac_cli.specs.Fetched.{AreFetched, FetchEnds, Fetches, IsFetched, IsLater, faulty, goes_on, longer, never, stops}
+use Rattle.ccac_cli.specs.Halted.{HaltsAt, HaltsBy, Replies}
 use Rattle.ccac_cli.specs.Reports.{Answer, limit_of}
-use Rattle.ccac_cli.specs.Settled.{Settled}
+use Rattle.ccac_cli.specs.declared.reports.Report.{Report as Reported}
 use Rattle.ccac_cli.specs.declared.reports.Source.{Source}
+use Rattle.ccac_cli.specs.declared.reports.Source.TheVariants.{Controller, Question}
 use Rattle.ccac_cli.specs.declared.fetching.Halt.{Halt}
 use Rattle.ccac_cli.specs.declared.fetching.Halt.TheVariants.{Report, NoMemory}
+use Rattle.ccac_cli.proofs.HaltLaws.{halts_so, replies_so}
 
 rises : (old middle new : ℕ) → old ≤ middle → HasRisen middle new → HasRisen old new
 rises old middle new below (inl more) = inl (omega arith)
@@ -39,26 +41,72 @@ later_halts old middle new source name NoMemory later ends = tt
 -- a fetch that ends an order settles it
 pub settled_by : (old new : Told) (order : Order) (source : Source) (name : List ℕ) (halt : Halt)
     → ((answer : Answer) → FetchEnds old new source name answer → OrderAnswers old new order answer)
-    → HaltsAt old new source name halt → Settled old new order (Err halt)
-settled_by old new order source name (Report report) answers ends = answers _ ends
-settled_by old new order source name NoMemory answers ends = tt
+    → HaltsAt old new source name halt → HaltsBy (OrderAnswers old new order) halt
+settled_by old new order source name halt answers ends = halts_so (FetchEnds old new source name) (OrderAnswers old new order) halt answers ends
 
--- files that were fetched one after the other
-pub none_fetched : (folder : Told) → AreFetched folder [] []
-unfolding AreFetched
-none_fetched folder = tt
+-- a report that the bytes of a fetched file allow is one that its name allows
+pub settled_with : (old new : Told) (source : Source) (name bytes same : List ℕ) (Then : List ℕ → Answer → Type 0) (result : Result Reported Halt)
+    → IsFetched old source name bytes → same ≡ bytes → Replies (Then same) result → Replies (Fetches old new source name Then) result
+settled_with old new source name bytes same Then result fetched is answers =
+    replies_so (Then same) (Fetches old new source name Then) result (λ a allowed. goes_on bytes fetched (subst (λ b. Then b a) is allowed)) answers
 
-pub one_fetched : (folder : Told) (s : Source) (n bytes : List ℕ) → IsFetched folder s n bytes → AreFetched folder (file s n ∷ []) (bytes ∷ [])
-unfolding AreFetched
-one_fetched folder s n bytes first = (first, tt)
+-- ---- three files
 
-pub two_fetched : (folder : Told) (s s' : Source) (n n' bytes bytes' : List ℕ) → IsFetched folder s n bytes → IsFetched folder s' n' bytes'
-    → AreFetched folder (file s n ∷ file s' n' ∷ []) (bytes ∷ bytes' ∷ [])
-unfolding AreFetched
-two_fetched folder s s' n n' bytes bytes' first second = (first, (second, tt))
+fetches_so : (old new : Told) (source : Source) (name : List ℕ) (Then More : List ℕ → Answer → Type 0) (a : Answer)
+    → ((bytes : List ℕ) → Then bytes a → More bytes a) → Fetches old new source name Then a → Fetches old new source name More a
+fetches_so old new source name Then More a so (stops ends) = stops ends
+fetches_so old new source name Then More a so (goes_on bytes fetched is) = goes_on bytes fetched (so bytes is)
 
-pub three_fetched : (folder : Told) (s s' s'' : Source) (n n' n'' bytes bytes' bytes'' : List ℕ) → IsFetched folder s n bytes
-    → IsFetched folder s' n' bytes' → IsFetched folder s'' n'' bytes''
-    → AreFetched folder (file s n ∷ file s' n' ∷ file s'' n'' ∷ []) (bytes ∷ bytes' ∷ bytes'' ∷ [])
-unfolding AreFetched
-three_fetched folder s s' s'' n n' n'' bytes bytes' bytes'' first second third = (first, (second, (third, tt)))
+three_stop : (old new : Told) (third : Source) (c q t : List ℕ) (Then : List ℕ → List ℕ → List ℕ → Answer → Type 0) (a : Answer)
+    → had_three (Fetches old new) third c q t never a → had_three (Fetches old new) third c q t Then a
+three_stop old new third c q t Then a stopped =
+    fetches_so old new Controller c _ _ a
+    (λ one. fetches_so old new Question q _ _ a (λ two. fetches_so old new third t (never one two) (Then one two) a (λ three no. absurd no))) stopped
+
+-- a fetch that ends the order of three files, whatever their bytes are, settles it
+pub stopped_by : (old new : Told) (third : Source) (c q t : List ℕ) (Then : List ℕ → List ℕ → List ℕ → Answer → Type 0) (halt : Halt)
+    → HaltsBy (had_three (Fetches old new) third c q t never) halt → HaltsBy (had_three (Fetches old new) third c q t Then) halt
+stopped_by old new third c q t Then halt stopped =
+    halts_so (had_three (Fetches old new) third c q t never) (had_three (Fetches old new) third c q t Then) halt (three_stop old new third c q t Then) stopped
+
+three_fetched : (old new : Told) (third : Source) (c q t one two three : List ℕ) (Then : List ℕ → List ℕ → List ℕ → Answer → Type 0) (a : Answer)
+    → AreFetched old third c q t one two three → Then one two three a → had_three (Fetches old new) third c q t Then a
+three_fetched old new third c q t one two three Then a are is = goes_on one are.controller_is (goes_on two are.question_is (goes_on three are.third_is is))
+
+-- a report that the bytes of three fetched files allow is one that their names allow
+pub settled_with_three : (old new : Told) (third : Source) (c q t one two three one' two' three' : List ℕ)
+    (Then : List ℕ → List ℕ → List ℕ → Answer → Type 0) (result : Result Reported Halt) → AreFetched old third c q t one two three
+    → one' ≡ one → two' ≡ two → three' ≡ three → Replies (Then one' two' three') result → Replies (had_three (Fetches old new) third c q t Then) result
+settled_with_three old new third c q t one two three one' two' three' Then result are first second last answers =
+    replies_so (Then one' two' three') (had_three (Fetches old new) third c q t Then) result
+    (λ a is. three_fetched old new third c q t one two three Then a are
+    (subst (λ b. Then b two three a) first (subst (λ b. Then one' b three a) second (subst (λ b. Then one' two' b a) last is)))) answers
+
+-- ---- the fetch of three files
+
+pub first_stops : (old new : Told) (third : Source) (c q t : List ℕ) (halt : Halt) → HaltsAt old new Controller c halt
+    → HaltsBy (had_three (Fetches old new) third c q t never) halt
+first_stops old new third c q t halt ends =
+    halts_so (FetchEnds old new Controller c) (had_three (Fetches old new) third c q t never) halt (λ a stop. stops stop) ends
+
+pub second_stops : (old middle new : Told) (third : Source) (c q t one : List ℕ) (halt : Halt) → IsLater old middle → IsFetched old Controller c one
+    → HaltsAt middle new Question q halt → HaltsBy (had_three (Fetches old new) third c q t never) halt
+second_stops old middle new third c q t one halt later fetched ends =
+    halts_so (FetchEnds old new Question q) (had_three (Fetches old new) third c q t never) halt (λ a stop. goes_on one fetched (stops stop))
+    (later_halts old middle new Question q halt later ends)
+
+pub third_stops : (old second last new : Told) (third : Source) (c q t one two : List ℕ) (halt : Halt) → IsLater old second → IsLater second last
+    → IsFetched old Controller c one → IsFetched second Question q two → HaltsAt last new third t halt
+    → HaltsBy (had_three (Fetches old new) third c q t never) halt
+third_stops old second last new third c q t one two halt later later' fetched fetched' ends =
+    halts_so (FetchEnds old new third t) (had_three (Fetches old new) third c q t never) halt
+    (λ a stop. goes_on one fetched (goes_on two (later_fetched old second Question q two later fetched') (stops stop)))
+    (later_halts old second new third t halt later (later_halts second last new third t halt later' ends))
+
+pub all_fetched : (old second last : Told) (third : Source) (c q t one two three : List ℕ) → IsLater old second → IsLater second last
+    → IsFetched old Controller c one → IsFetched second Question q two → IsFetched last third t three → AreFetched old third c q t one two three
+all_fetched old second last third c q t one two three later later' first fetched fetched' = record {
+  controller_is = first;
+  question_is = later_fetched old second Question q two later fetched;
+  third_is = later_fetched old second third t three later (later_fetched second last third t three later' fetched');
+}

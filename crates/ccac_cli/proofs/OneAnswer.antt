@@ -1,5 +1,7 @@
 -- The bytes of the files have one answer.
-use Rattle.std.proofs.Common.{◌≡◌, ℕ, List, [], ◌∷◌, sym, ap, subst, ◌∙◌}
+use Rattle.std.proofs.Common.{◌≡◌, ℕ, ◌<◌, List, length, refl, sym, ap, subst, ◌∙◌, arith}
+use Rattle.std.specs.Prelude.{IfSome}
+use Rattle.ccac_ports.specs.Ports.{Tells, Told}
 use Rattle.run_rows.specs.declared.rows.Run.{Run}
 use Rattle.path_server.specs.Places.{admission}
 use Rattle.path_server.specs.declared.settings.Setting.{Setting}
@@ -9,14 +11,16 @@ use Rattle.ctrl_syntax.proofs.Exactness as controllers
 use Rattle.question_syntax.proofs.Exactness as questions
 use Rattle.trace_text.proofs.Exactness as traces
 use Rattle.ccac_cli.specs.Admitting.{AdmitAnswers, TraceAnswers, trace_refused, examined, question_refused, question_read}
-use Rattle.ccac_cli.specs.Commands.{Order, admit, format, format_question, replay}
-use Rattle.ccac_cli.specs.Ended.{BytesAnswer, one_file, two_files, three_files}
-use Rattle.ccac_cli.specs.Formats.{FormatAnswers, QuestionFormat, controller_refused, controller_put, formatted}
-use Rattle.ccac_cli.specs.Replays.{ReplayAnswers}
-use Rattle.ccac_cli.specs.Reports.{Answer, refused, verdict}
+use Rattle.ccac_cli.specs.Commands.{Order, admit, audit, format, format_question, replay}
+use Rattle.ccac_cli.specs.Ended.{OrderAnswers, ToldAnswers}
+use Rattle.ccac_cli.specs.Fetched.{Fetches, Holds, faulty, goes_on, longer, stops}
+use Rattle.ccac_cli.specs.Formats.{FormatAnswers, controller_refused, controller_put, formatted}
+use Rattle.ccac_cli.specs.Reports.{Answer, limit_of, refused, verdict}
 use Rattle.ccac_cli.specs.Texts.{IsSettingText}
-use Rattle.ccac_cli.specs.declared.reports.Source.TheVariants.{Controller, Question, Trace}
+use Rattle.ccac_cli.specs.declared.reports.Source.{Source}
+use Rattle.ccac_cli.specs.declared.reports.Source.TheVariants.{Controller, Question, Trace, Cert}
 use Rattle.ccac_cli.proofs.ControllerTexts.{one_refusal, not_both}
+use Rattle.ccac_cli.proofs.OneAudit.{audited_once}
 use Rattle.ccac_cli.proofs.OneReplay.{question_formatted_once, replayed_once}
 
 -- ---- a question and a trace
@@ -50,30 +54,56 @@ formatted_once controller _ _ (controller_put syntax c one) (controller_put othe
 
 -- ---- the files of an order
 
-one_once : (Answers : List ℕ → Answer → Type 0) → ((one : List ℕ) (a b : Answer) → Answers one a → Answers one b → a ≡ b)
-    → (contents : List (List ℕ)) (a b : Answer) → one_file Answers contents a → one_file Answers contents b → a ≡ b
-one_once Answers once [] a b first second = absurd first
-one_once Answers once (one ∷ []) a b first second = once one a b first second
-one_once Answers once (one ∷ two ∷ more) a b first second = absurd first
+-- a file that is told is fetched as it is told to be, and its bytes decide
+same_file : (old new : Told) (source : Source) (name : List ℕ) (Then Other : List ℕ → Answer → Type 0) (a b : Answer)
+    → ((bytes : List ℕ) → Then bytes a → Other bytes b → a ≡ b) → Fetches old new source name Then a → Holds old new source name Other b → a ≡ b
+same_file old new source name Then Other a b once (stops (faulty rose)) held = absurd (held.told.no_fault rose)
+same_file old new source name Then Other a b once (stops (longer rose past)) held =
+    let longer_still : limit_of source < length held.bytes =
+    subst (λ told. IfSome told (λ bytes. limit_of source < length bytes)) held.told.content past
+    in
+    let within = held.told.within in absurd (omega arith)
+same_file old new source name Then Other a b once (goes_on bytes fetched decides) held =
+    let same : bytes ≡ held.bytes = subst (λ told. Tells told bytes) held.told.content fetched.told in
+    once held.bytes (subst (λ got. Then got a) same decides) held.decides
 
-two_once : (Answers : List ℕ → List ℕ → Answer → Type 0) → ((one two : List ℕ) (a b : Answer) → Answers one two a → Answers one two b → a ≡ b)
-    → (contents : List (List ℕ)) (a b : Answer) → two_files Answers contents a → two_files Answers contents b → a ≡ b
-two_once Answers once [] a b first second = absurd first
-two_once Answers once (one ∷ []) a b first second = absurd first
-two_once Answers once (one ∷ two ∷ []) a b first second = once one two a b first second
-two_once Answers once (one ∷ two ∷ three ∷ more) a b first second = absurd first
+pub told_once : (old new : Told) (order : Order) (a b : Answer) → OrderAnswers old new order a → ToldAnswers old new order b → a ≡ b
+told_once old new (admit q t) a b one two =
+    same_file old new Question q _ _ a b
+    (λ question. same_file old new Trace t _ _ a b (λ trace. admitted_once question trace a b)) one two
+told_once old new (replay c q t) a b one two =
+    same_file old new Controller c _ _ a b
+    (λ controller. same_file old new Question q _ _ a b
+    (λ question. same_file old new Trace t _ _ a b (λ trace. replayed_once controller question trace a b))) one two
+told_once old new (audit c q k) a b one two =
+    same_file old new Controller c _ _ a b
+    (λ controller. same_file old new Question q _ _ a b
+    (λ question. same_file old new Cert k _ _ a b (λ cert. audited_once controller question cert a b))) one two
+told_once old new (format c) a b one two = same_file old new Controller c _ _ a b (λ controller. formatted_once controller a b) one two
+told_once old new (format_question c q) a b one two =
+    same_file old new Controller c _ _ a b
+    (λ controller. same_file old new Question q _ _ a b (λ question. question_formatted_once controller question a b)) one two
 
-three_once : (Answers : List ℕ → List ℕ → List ℕ → Answer → Type 0)
-    → ((one two three : List ℕ) (a b : Answer) → Answers one two three a → Answers one two three b → a ≡ b)
-    → (contents : List (List ℕ)) (a b : Answer) → three_files Answers contents a → three_files Answers contents b → a ≡ b
-three_once Answers once [] a b first second = absurd first
-three_once Answers once (one ∷ []) a b first second = absurd first
-three_once Answers once (one ∷ two ∷ []) a b first second = absurd first
-three_once Answers once (one ∷ two ∷ three ∷ []) a b first second = once one two three a b first second
-three_once Answers once (one ∷ two ∷ three ∷ four ∷ more) a b first second = absurd first
+-- what is told can be fetched
+fetched_so : (old new : Told) (source : Source) (name : List ℕ) (Then Other : List ℕ → Answer → Type 0) (a : Answer)
+    → ((bytes : List ℕ) → Then bytes a → Other bytes a) → Holds old new source name Then a → Fetches old new source name Other a
+fetched_so old new source name Then Other a so held =
+    goes_on held.bytes
+    (record { told = subst (λ told. Tells told held.bytes) (sym held.told.content) refl; within = held.told.within })
+    (so held.bytes held.decides)
 
-pub answered_once : (order : Order) (contents : List (List ℕ)) (a b : Answer) → BytesAnswer order contents a → BytesAnswer order contents b → a ≡ b
-answered_once (admit q t) contents a b first second = two_once AdmitAnswers admitted_once contents a b first second
-answered_once (replay c q t) contents a b first second = three_once ReplayAnswers replayed_once contents a b first second
-answered_once (format c) contents a b first second = one_once FormatAnswers formatted_once contents a b first second
-answered_once (format_question c q) contents a b first second = two_once QuestionFormat question_formatted_once contents a b first second
+told_fetched : (old new : Told) (order : Order) (a : Answer) → ToldAnswers old new order a → OrderAnswers old new order a
+told_fetched old new (admit q t) a held =
+    fetched_so old new Question q _ _ a (λ question. fetched_so old new Trace t _ _ a (λ trace is. is)) held
+told_fetched old new (replay c q t) a held =
+    fetched_so old new Controller c _ _ a
+    (λ controller. fetched_so old new Question q _ _ a (λ question. fetched_so old new Trace t _ _ a (λ trace is. is))) held
+told_fetched old new (audit c q k) a held =
+    fetched_so old new Controller c _ _ a
+    (λ controller. fetched_so old new Question q _ _ a (λ question. fetched_so old new Cert k _ _ a (λ cert is. is))) held
+told_fetched old new (format c) a held = fetched_so old new Controller c _ _ a (λ controller is. is) held
+told_fetched old new (format_question c q) a held =
+    fetched_so old new Controller c _ _ a (λ controller. fetched_so old new Question q _ _ a (λ question is. is)) held
+
+pub answered_once : (old new : Told) (order : Order) (a b : Answer) → ToldAnswers old new order a → ToldAnswers old new order b → a ≡ b
+answered_once old new order a b one two = told_once old new order a b (told_fetched old new order a one) two

@@ -1,30 +1,14 @@
 -- The words of a command line, by the table of commands.
 use Rattle.std.specs.Prelude.{ℕ, List, [], ◌∷◌, Option, None, Some, codes, if◌then◌else◌}
 use Rattle.std.specs.Str.{bytes_eq}
-use Rattle.ccac_cli.specs.declared.reports.Source.{Source}
-use Rattle.ccac_cli.specs.declared.reports.Source.TheVariants.{Controller, Question, Trace}
-
--- a file of a command, by its name
-pub record File : Type 0 where
-  pub source : Source
-  pub name : List ℕ
-
-abbrev pub file : Source → List ℕ → File
-file source name = record { source = source; name = name }
 
 -- a command with the names of its files
 pub data Order : Type 0 where
   admit : List ℕ → List ℕ → Order  -- the question's name, and the trace's
   replay : List ℕ → List ℕ → List ℕ → Order  -- the controller's name, the question's, and the trace's
+  audit : List ℕ → List ℕ → List ℕ → Order  -- the controller's name, the question's, and the certificate's
   format : List ℕ → Order  -- the controller's name
   format_question : List ℕ → List ℕ → Order  -- the controller's name, and the question's
-
--- the files of an order, in the order in which they are fetched
-abbrev pub files_of : Order → List File
-files_of (admit q t) = file Question q ∷ file Trace t ∷ []
-files_of (replay c q t) = file Controller c ∷ file Question q ∷ file Trace t ∷ []
-files_of (format c) = file Controller c ∷ []
-files_of (format_question c q) = file Controller c ∷ file Question q ∷ []
 
 -- the order of a first word with one name, with two, and with three
 abbrev pub of_one : List ℕ → List ℕ → Option Order
@@ -37,7 +21,10 @@ of_two word one two =
     else None
 
 abbrev pub of_three : List ℕ → List ℕ → List ℕ → List ℕ → Option Order
-of_three word one two three = if bytes_eq word (codes "replay") then Some (replay one two three) else None
+of_three word one two three =
+    if bytes_eq word (codes "replay") then Some (replay one two three)
+    else if bytes_eq word (codes "audit") then Some (audit one two three)
+    else None
 
 -- the line of the table that the words are, if they are one
 abbrev pub order_of : List (List ℕ) → Option Order

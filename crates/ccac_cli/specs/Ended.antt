@@ -1,62 +1,41 @@
 -- What a call of the program may answer to its words, and how it may end.
-use Rattle.std.specs.Prelude.{◌≡◌, ℕ, List, [], ◌∷◌, ◌++◌, take, Option, None, Some}
-use Rattle.ccac_ports.specs.Ports.{Appends, HasRisen}
+use Rattle.std.specs.Prelude.{◌≡◌, ℕ, List, [], take, ◌⊎◌, Option, None, Some}
+use Rattle.ccac_ports.specs.Ports.{Appends, Got, HasRisen, Told}
 use Rattle.ccac_cli.specs.Admitting.{AdmitAnswers}
-use Rattle.ccac_cli.specs.Commands.{File, Order, admit, files_of, format, format_question, replay}
-use Rattle.ccac_cli.specs.Fetched.{FetchEnds, IsFetched, Told}
+use Rattle.ccac_cli.specs.Audits.{AuditAnswers}
+use Rattle.ccac_cli.specs.Commands.{Order, admit, audit, format, format_question, replay}
+use Rattle.ccac_cli.specs.Fetched.{Fetches, Holds}
 use Rattle.ccac_cli.specs.Formats.{FormatAnswers, QuestionFormat}
 use Rattle.ccac_cli.specs.Replays.{ReplayAnswers}
 use Rattle.ccac_cli.specs.Reports.{Answer, usage}
+use Rattle.ccac_cli.specs.declared.reports.Source.{Source}
+use Rattle.ccac_cli.specs.declared.reports.Source.TheVariants.{Controller, Question, Trace, Cert}
 
--- the bytes of each file, as the folder tells them
-unfoldable pub AreFetched : Told → List File → List (List ℕ) → Type 0
-AreFetched folder [] [] = Unit {0}
-AreFetched folder [] (bytes ∷ more) = ⊥
-AreFetched folder (file ∷ files) [] = ⊥
-AreFetched folder (file ∷ files) (bytes ∷ more) = IsFetched folder file.source file.name bytes × AreFetched folder files more
+-- a controller, a question and a third file, had one after the other
+abbrev pub had_three : (Source → List ℕ → (List ℕ → Answer → Type 0) → Answer → Type 0) → Source → List ℕ → List ℕ → List ℕ
+    → (List ℕ → List ℕ → List ℕ → Answer → Type 0) → Answer → Type 0
+had_three had third c q t Then = had Controller c (λ controller. had Question q (λ question. had third t (λ bytes. Then controller question bytes)))
 
--- what is answered to one file, to two, and to three
-abbrev pub one_file : (List ℕ → Answer → Type 0) → List (List ℕ) → Answer → Type 0
-one_file Answers [] a = ⊥
-one_file Answers (one ∷ []) a = Answers one a
-one_file Answers (one ∷ two ∷ more) a = ⊥
+-- the files of an order, each had in this way one after the other, and then what their bytes are answered with
+abbrev pub answers_by : (Source → List ℕ → (List ℕ → Answer → Type 0) → Answer → Type 0) → Order → Answer → Type 0
+answers_by had (admit q t) = had Question q (λ question. had Trace t (λ trace. AdmitAnswers question trace))
+answers_by had (replay c q t) = had_three had Trace c q t ReplayAnswers
+answers_by had (audit c q k) = had_three had Cert c q k AuditAnswers
+answers_by had (format c) = had Controller c FormatAnswers
+answers_by had (format_question c q) = had Controller c (λ controller. had Question q (λ question. QuestionFormat controller question))
 
-abbrev pub two_files : (List ℕ → List ℕ → Answer → Type 0) → List (List ℕ) → Answer → Type 0
-two_files Answers [] a = ⊥
-two_files Answers (one ∷ []) a = ⊥
-two_files Answers (one ∷ two ∷ []) a = Answers one two a
-two_files Answers (one ∷ two ∷ three ∷ more) a = ⊥
+-- what an order is answered with: each file is fetched in its turn, and a fetch can end the order
+abbrev pub OrderAnswers : Told → Told → Order → Answer → Type 0
+OrderAnswers old new order a = answers_by (Fetches old new) order a
 
-abbrev pub three_files : (List ℕ → List ℕ → List ℕ → Answer → Type 0) → List (List ℕ) → Answer → Type 0
-three_files Answers [] a = ⊥
-three_files Answers (one ∷ []) a = ⊥
-three_files Answers (one ∷ two ∷ []) a = ⊥
-three_files Answers (one ∷ two ∷ three ∷ []) a = Answers one two three a
-three_files Answers (one ∷ two ∷ three ∷ four ∷ more) a = ⊥
-
--- what is answered to the bytes of an order's files
-abbrev pub BytesAnswer : Order → List (List ℕ) → Answer → Type 0
-BytesAnswer (admit q t) contents a = two_files AdmitAnswers contents a
-BytesAnswer (replay c q t) contents a = three_files ReplayAnswers contents a
-BytesAnswer (format c) contents a = one_file FormatAnswers contents a
-BytesAnswer (format_question c q) contents a = two_files QuestionFormat contents a
-
--- the answers to an order, each with its cause: the files are fetched in their order, and then their bytes are examined
-pub data OrderAnswers (old new : Told) (order : Order) (a : Answer) : Type 0 where
-  fetch_ends : (before : List File) (file : File) (after : List File) (contents : List (List ℕ)) → files_of order ≡ before ++ file ∷ after
-      → AreFetched old before contents → FetchEnds old new file.source file.name a → OrderAnswers old new order a
-  answered : (contents : List (List ℕ)) → AreFetched old (files_of order) contents → BytesAnswer order contents a
-      → OrderAnswers old new order a
+-- what an order is answered with where the folder tells what its files hold and counts no fault of them
+abbrev pub ToldAnswers : Told → Told → Order → Answer → Type 0
+ToldAnswers old new order a = answers_by (Holds old new) order a
 
 -- the answers to the words: usage where they are no order
 abbrev pub Answers : Told → Told → Option Order → Answer → Type 0
 Answers old new None a = a ≡ usage
 Answers old new (Some order) a = OrderAnswers old new order a
-
--- a sink: the text that it got, if that is told, and its count of faults
-pub record Got : Type 0 where
-  pub text : Option (List ℕ)
-  pub faults : ℕ
 
 -- a part of an answer's text was put, perhaps nothing
 pub record IsPart (Allowed : Answer → Type 0) (old new : Got) : Type 0 where
@@ -72,3 +51,7 @@ pub data Ends (Allowed : Answer → Type 0) (old new : Got) : ℕ → Type 0 whe
   cut_short : HasRisen old.faults new.faults → IsPart Allowed old new → Ends Allowed old new 6
   no_memory : Appends old.text new.text [] → Ends Allowed old new 7
   no_memory_left : IsPart Allowed old new → Ends Allowed old new 7
+
+-- the answer was put whole and its status is given, or memory ran out
+abbrev pub IsAnswered : Answer → Got → Got → ℕ → Type 0
+IsAnswered a old new status = ((status ≡ a.status) × Appends old.text new.text a.text) ⊎ (status ≡ 7)

@@ -1,5 +1,5 @@
 -- What is answered to a controller, or a controller and a question, that are to be put canonically.
-use Rattle.std.specs.Prelude.{ℕ, List}
+use Rattle.std.specs.Prelude.{◌≡◌, ℕ, List}
 use Rattle.whole.specs.declared.answers.Refusal.{Refusal}
 use Rattle.ctrl_syntax.specs.Printed as controllers
 use Rattle.ctrl_syntax.specs.Sections.{sections_of}
@@ -7,12 +7,12 @@ use Rattle.ctrl_syntax.specs.declared.syntax.Syntax.{Syntax}
 use Rattle.ctrl_types.specs.declared.controllers.Controller.{Controller}
 use Rattle.question_syntax.specs.Printed as questions
 use Rattle.question_text.specs.Resolving.{question_seen}
-use Rattle.question_text.specs.Texts.{IsRefused, sections_written}
+use Rattle.question_text.specs.Texts.{sections_written}
 use Rattle.question_text.specs.declared.questions.Question.{Question}
-use Rattle.ccac_cli.specs.Replays.{IsAsked}
+use Rattle.ccac_cli.specs.Asked.{Asks}
 use Rattle.ccac_cli.specs.Reports.{Answer, refused}
 use Rattle.ccac_cli.specs.Texts.{IsControllerRefused, IsControllerText}
-use Rattle.ccac_cli.specs.declared.reports.Source.TheVariants.{Controller as ControllerFile, Question as QuestionFile}
+use Rattle.ccac_cli.specs.declared.reports.Source.TheVariants.{Controller as ControllerFile}
 
 -- a text that is put whole
 abbrev pub formatted : List ℕ → Answer
@@ -29,13 +29,6 @@ pub data FormatAnswers (controller : List ℕ) : Answer → Type 0 where
   controller_refused : (r : Refusal) → IsControllerRefused controller r → FormatAnswers controller (refused ControllerFile r)
   controller_put : (syntax : Syntax) (c : Controller) → IsControllerText controller syntax c → FormatAnswers controller (formatted (controller_text syntax))
 
--- the one answer to a question about a controller
-pub data AskedFormat (c : Controller) (question : List ℕ) : Answer → Type 0 where
-  question_refused : (r : Refusal) → IsRefused c question r → AskedFormat c question (refused QuestionFile r)
-  question_put : (q : Question) → IsAsked c question q → AskedFormat c question (formatted (question_text c q))
-
--- the one answer to a controller and a question: the controller is read first
-pub data QuestionFormat (controller question : List ℕ) : Answer → Type 0 where
-  controller_stops : (r : Refusal) → IsControllerRefused controller r → QuestionFormat controller question (refused ControllerFile r)
-  controller_read : (syntax : Syntax) (c : Controller) (a : Answer) → IsControllerText controller syntax c → AskedFormat c question a
-      → QuestionFormat controller question a
+-- the one answer to a controller and a question
+abbrev pub QuestionFormat : List ℕ → List ℕ → Answer → Type 0
+QuestionFormat controller question = Asks controller question (λ c q a. a ≡ formatted (question_text c q))

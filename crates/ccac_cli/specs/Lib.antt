@@ -4,12 +4,13 @@ pub mod Reports
 pub mod Shown
 pub mod Texts
 pub mod Admitting
+pub mod Asked
 pub mod Replays
+pub mod Audits
 pub mod Formats
 pub mod Fetched
 pub mod Halted
 pub mod Ended
 pub mod Settled
-pub mod Examination
-pub mod ReplayEnds
-pub mod FormatEnds
+pub mod Meaning
+pub mod SeenAnswers

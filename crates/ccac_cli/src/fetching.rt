@@ -1,10 +1,12 @@
 ghost use Rattle.std.specs.Prelude.{◌≡◌, ◌≤◌, length, IfOk, IfErr};
-ghost use Rattle.ccac_cli.specs.Fetched.{IsFetched, IsLater};
-ghost use Rattle.ccac_cli.specs.Halted.{HaltsAt};
+ghost use Rattle.ccac_cli.specs.Ended.{had_three};
+ghost use Rattle.ccac_cli.specs.Fetched.{AreFetched, Fetches, IsFetched, IsLater, never};
+ghost use Rattle.ccac_cli.specs.Halted.{HaltsAt, HaltsBy};
 
 use crate::reports::{Report, Source};
 use ccac_ports::{FetchFault, Folder};
 use std::alloc::{AllocError, Global};
+use whole::NoMemory;
 
 /// Why a command ends before it has an answer of its own.
 #[derive(Debug, Drop)]
@@ -24,6 +26,17 @@ impl From<AllocError> for Halt {
     }
 }
 
+impl From<NoMemory> for Halt {
+    ghost use Rattle.std.specs.Prelude.{◌≡◌};
+    ghost use Rattle.ccac_cli.specs.declared.fetching.Halt.TheVariants.{NoMemory};
+
+    ghost from_gives = { λ _ halt. halt ≡ NoMemory };
+
+    fn from(_fault: NoMemory) -> Halt {
+        Halt::NoMemory
+    }
+}
+
 /// The bytes of a file, or the report that says why there are none.
 pub(crate) fn fetch<F: Folder>(
     alloc: Global,
@@ -31,16 +44,9 @@ pub(crate) fn fetch<F: Folder>(
     source: Source,
     name: &str,
 ) -> Result<Vec<u8>, Halt>
-    ensures found { IfOk result (λ bytes. IsFetched
-        (record { content = F.content folder.old; faults = F.faults folder.old; excesses = F.excesses folder.old })
-        source name.now bytes.items) }
-    ensures halted { IfErr result (λ halt. HaltsAt
-        (record { content = F.content folder.old; faults = F.faults folder.old; excesses = F.excesses folder.old })
-        (record { content = F.content folder.new; faults = F.faults folder.new; excesses = F.excesses folder.new })
-        source name.now halt) }
-    ensures later { IsLater
-        (record { content = F.content folder.old; faults = F.faults folder.old; excesses = F.excesses folder.old })
-        (record { content = F.content folder.new; faults = F.faults folder.new; excesses = F.excesses folder.new }) }
+    ensures found { IfOk result (λ bytes. IsFetched (F.tells folder.old) source name.now bytes.items) }
+    ensures halted { IfErr result (λ halt. HaltsAt (F.tells folder.old) (F.tells folder.new) source name.now halt) }
+    ensures later { IsLater (F.tells folder.old) (F.tells folder.new) }
 {
     match folder.fetch(name, source.limit()) {
         Ok(bytes) => Ok(bytes),
@@ -48,4 +54,34 @@ pub(crate) fn fetch<F: Folder>(
         Err(FetchFault::TooLong) => Err(Halt::Report(Report::too_long(alloc, source)?)),
         Err(FetchFault::NoMemory) => Err(Halt::NoMemory),
     }
+}
+
+/// The bytes of a controller, a question and a third file.
+#[derive(Drop)]
+pub(crate) struct ThreeTexts {
+    pub controller: Vec<u8>,
+    pub question: Vec<u8>,
+    pub third: Vec<u8>,
+}
+
+/// The bytes of the three files, which are fetched in this order, or the report on the first that can't be had.
+pub(crate) fn fetch_three<F: Folder>(
+    alloc: Global,
+    folder: &mut F,
+    source: Source,
+    controller: &str,
+    question: &str,
+    third: &str,
+) -> Result<ThreeTexts, Halt>
+    ensures found { IfOk result (λ texts. AreFetched (F.tells folder.old) source controller.now question.now third.now texts.controller.items texts.question.items texts.third.items) }
+    ensures halted { IfErr result (λ halt. HaltsBy (had_three (Fetches (F.tells folder.old) (F.tells folder.new)) source controller.now question.now third.now never) halt) }
+{
+    let controller = fetch(alloc, folder, Source::Controller, controller)?;
+    let question = fetch(alloc, folder, Source::Question, question)?;
+    let third = fetch(alloc, folder, source, third)?;
+    Ok(ThreeTexts {
+        controller,
+        question,
+        third,
+    })
 }

@@ -2,6 +2,8 @@
 #![tactic(auto)]
 
 mod admitting;
+mod asking;
+mod auditing;
 mod commands;
 mod controllers;
 mod fetching;
@@ -13,5 +15,5 @@ mod running;
 #[cfg(test)]
 mod tests;
 
-pub use laws::{canonical_texts_stay, controller_texts_are_told_apart, one_answer};
+pub use laws::{canonical_texts_stay, controller_texts_are_told_apart, one_answer, some_answer};
 pub use running::run;

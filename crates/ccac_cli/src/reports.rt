@@ -1,9 +1,12 @@
 ghost use Rattle.std.specs.Prelude.{◌≡◌, IfOk, string_bytes};
+ghost use Rattle.ccac_cli.specs.Reports.{size_word};
 
+use cert_check::Checked;
+use clause_form::What;
 use path_server::Admit;
 use std::alloc::{AllocError, Global};
 use trace_replay::{Replayed, RunRule};
-use whole::{Refusal, Stuck};
+use whole::{NoMemory, Refusal, Stuck};
 
 /// A file that a command reads, as reports name it.
 #[derive(Clone, Copy, Debug, PartialEq, Eq)]
@@ -11,6 +14,7 @@ pub(crate) enum Source {
     Controller,
     Question,
     Trace,
+    Cert,
 }
 
 /// What is put, and the status that goes with it.
@@ -31,6 +35,7 @@ impl Source {
             Source::Controller => "controller",
             Source::Question => "question",
             Source::Trace => "trace",
+            Source::Cert => "cert",
         }
     }
 
@@ -41,13 +46,14 @@ impl Source {
         match self {
             Source::Controller | Source::Question => 65_536,
             Source::Trace => 262_144,
+            Source::Cert => 268_435_456,
         }
     }
 }
 
 impl Report {
     ghost use Rattle.std.specs.Prelude.{◌≡◌, IfOk, string_bytes};
-    ghost use Rattle.ccac_cli.specs.Reports.{broken, read_fault, refused, replay_verdict, too_long, usage, verdict, wide};
+    ghost use Rattle.ccac_cli.specs.Reports.{SaysOfCheck, broken, read_fault, refused, replay_verdict, too_large, too_long, unproved, usage, verdict, wide, wide_sum};
     ghost use Rattle.ccac_cli.specs.Formats.{formatted};
     ghost use Rattle.ccac_cli.specs.Shown.{shown};
 
@@ -113,6 +119,15 @@ impl Report {
         Ok(Report::line(3, text))
     }
 
+    /// The report on a problem that would pass this limit.
+    #[tactic(auto, unfolding(crate::specs::Reports::too_large))]
+    pub(crate) fn too_large(alloc: Global, what: What, limit: u32) -> Result<Report, AllocError>
+        ensures { IfOk result (λ report. shown report ≡ too_large what limit) }
+    {
+        let text = format!(in alloc; "refused large {} {limit}\n", size_word(what))?;
+        Ok(Report::line(3, text))
+    }
+
     /// The report on a run that breaks a rule at a row, for a flow or, under flow 0, for all.
     #[tactic(auto, unfolding(crate::specs::Reports::broken))]
     fn broken(alloc: Global, rule: RunRule, row: u32, flow: u32) -> Result<Report, AllocError>
@@ -161,5 +176,52 @@ impl Report {
             Replayed::Broken { rule, row, flow } => Report::broken(alloc, rule, row, flow),
             Replayed::Wide(stuck) => Report::wide(alloc, stuck),
         }
+    }
+
+    /// The report on a certificate that fails at a node of a lemma, by the cause with this number.
+    #[tactic(auto, unfolding(crate::specs::Reports::unproved))]
+    fn unproved(alloc: Global, lemma: u32, node: u32, cause: u8) -> Result<Report, AllocError>
+        ensures { IfOk result (λ report. shown report ≡ unproved lemma node cause) }
+    {
+        let text = format!(in alloc; "fails lemma {lemma} node {node} cause K{cause}\n")?;
+        Ok(Report::line(1, text))
+    }
+
+    /// The report on a certificate of which a sum at a node of a lemma passes 128 bits.
+    #[tactic(auto, unfolding(crate::specs::Reports::wide_sum))]
+    fn wide_sum(alloc: Global, lemma: u32, node: u32, column: u32) -> Result<Report, AllocError>
+        ensures { IfOk result (λ report. shown report ≡ wide_sum lemma node column) }
+    {
+        let text = format!(in alloc; "wide lemma {lemma} node {node} column {column}\n")?;
+        Ok(Report::line(2, text))
+    }
+
+    /// The report on a certificate that was checked.
+    pub(crate) fn check_report(alloc: Global, checked: Checked) -> Result<Report, NoMemory>
+        ensures { IfOk result (λ report. SaysOfCheck checked (shown report)) }
+    {
+        match checked {
+            Checked::Proved => Ok(Report::of(alloc, 0, "proved\n")?),
+            Checked::Fails { lemma, node, cause } => {
+                Ok(Report::unproved(alloc, lemma, node, cause)?)
+            }
+            Checked::Wide {
+                lemma,
+                node,
+                column,
+            } => Ok(Report::wide_sum(alloc, lemma, node, column)?),
+            Checked::NoMemory => Err(NoMemory),
+        }
+    }
+}
+
+/// What there is too much of in a problem, as reports name it.
+fn size_word(what: What) -> &'static str
+    ensures { result.now ≡ size_word what }
+{
+    match what {
+        What::Forms => "forms",
+        What::Atoms => "atoms",
+        What::Clauses => "clauses",
     }
 }

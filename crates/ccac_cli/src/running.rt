@@ -1,15 +1,17 @@
-ghost use Rattle.std.specs.Prelude.{◌≡◌, ◌⊎◌, ℕ, IfOk, None, map, string_bytes};
-ghost use Rattle.ccac_cli.specs.Commands.{admit, format, format_question, order_of, replay};
-ghost use Rattle.ccac_cli.specs.Ended.{Answers, Ends};
-ghost use Rattle.ccac_cli.specs.Examination.{EndsAdmitted, EndsBroken, EndsWide};
-ghost use Rattle.ccac_cli.specs.FormatEnds.{EndsControllerPut, EndsQuestionPut};
-ghost use Rattle.ccac_cli.specs.ReplayEnds.{EndsBreaking, EndsKeeping, EndsPassing, EndsViolating};
+ghost use Rattle.std.specs.Prelude.{◌≡◌, ◌≤◌, ◌⊎◌, ℕ, IfOk, None, Some, map, string_bytes};
+ghost use Rattle.ccac_ports.specs.Ports.{HasRisen};
+ghost use Rattle.ccac_cli.specs.Commands.{Order, admit, audit, format, format_question, order_of, replay};
+ghost use Rattle.ccac_cli.specs.Ended.{Answers, Ends, IsAnswered, ToldAnswers};
+ghost use Rattle.ccac_cli.specs.Meaning.{IsMeant};
+ghost use Rattle.ccac_cli.specs.Ordered.{ordered};
+ghost use Rattle.ccac_cli.specs.Reports.{Answer};
 ghost use Rattle.ccac_cli.specs.Settled.{Delivered, Settled};
 ghost use Rattle.ccac_cli.specs.Shown.{shown};
 
 use crate::admitting::admit;
+use crate::auditing::audit;
 use crate::commands::{Command, command_of};
-use crate::fetching::{Halt, fetch};
+use crate::fetching::{Halt, fetch, fetch_three};
 use crate::formatting::{format, format_question};
 use crate::replaying::replay;
 use crate::reports::{Report, Source};
@@ -22,7 +24,8 @@ use whole::NoMemory;
 ///
 /// `admit QUEST TRACE` reports `admitted` with 0, `broken RULE row I flow F` with 1, and `wide row I` with 2.
 /// `replay CTRL QUEST TRACE` reports `violating` with 0, `keeps` or `broken RULE row I flow F` with 1, and `wide row I`
-/// with 2. `fmt CTRL` and `fmt CTRL QUEST` report the canonical text of the last named file with 0.
+/// with 2. `audit CTRL QUEST CERT` reports `proved` with 0, `fails lemma N node M cause Kk` with 1, and `wide lemma N node M
+/// column J` with 2. `fmt CTRL` and `fmt CTRL QUEST` report the canonical text of the last named file with 0.
 /// A refused file is 3, words that are no command 4, a file that can't be read 5, a sink that fails 6,
 /// and want of memory 7.
 pub fn run<F: Folder, S: Sink>(
@@ -31,55 +34,15 @@ pub fn run<F: Folder, S: Sink>(
     folder: &mut F,
     out: &mut S,
 ) -> u8
-    ensures ended { Ends
-        (Answers
-        (record { content = F.content folder.old; faults = F.faults folder.old; excesses = F.excesses folder.old })
-        (record { content = F.content folder.new; faults = F.faults folder.new; excesses = F.excesses folder.new })
-        (order_of (map string_bytes words.now.items)))
-        (record { text = S.text out.old; faults = S.faults out.old })
-        (record { text = S.text out.new; faults = S.faults out.new })
-        result }
+    ensures ended { Ends (Answers (F.tells folder.old) (F.tells folder.new) (order_of (map string_bytes words.now.items))) (S.got out.old) (S.got out.new) result }
 
-    // What the statuses of an examined trace mean, and when the words are no command.
-    ensures succeeded { result ≡ 0 → (EndsAdmitted
-        (record { content = F.content folder.old; faults = F.faults folder.old; excesses = F.excesses folder.old })
-        (order_of (map string_bytes words.now.items))
-        (record { text = S.text out.old; faults = S.faults out.old })
-        (record { text = S.text out.new; faults = S.faults out.new })) ⊎ (EndsViolating
-        (record { content = F.content folder.old; faults = F.faults folder.old; excesses = F.excesses folder.old })
-        (order_of (map string_bytes words.now.items))
-        (record { text = S.text out.old; faults = S.faults out.old })
-        (record { text = S.text out.new; faults = S.faults out.new })) ⊎ (EndsControllerPut
-        (record { content = F.content folder.old; faults = F.faults folder.old; excesses = F.excesses folder.old })
-        (order_of (map string_bytes words.now.items))
-        (record { text = S.text out.old; faults = S.faults out.old })
-        (record { text = S.text out.new; faults = S.faults out.new })) ⊎ (EndsQuestionPut
-        (record { content = F.content folder.old; faults = F.faults folder.old; excesses = F.excesses folder.old })
-        (order_of (map string_bytes words.now.items))
-        (record { text = S.text out.old; faults = S.faults out.old })
-        (record { text = S.text out.new; faults = S.faults out.new })) }
-    ensures failed { result ≡ 1 → (EndsBroken
-        (record { content = F.content folder.old; faults = F.faults folder.old; excesses = F.excesses folder.old })
-        (order_of (map string_bytes words.now.items))
-        (record { text = S.text out.old; faults = S.faults out.old })
-        (record { text = S.text out.new; faults = S.faults out.new })) ⊎ (EndsKeeping
-        (record { content = F.content folder.old; faults = F.faults folder.old; excesses = F.excesses folder.old })
-        (order_of (map string_bytes words.now.items))
-        (record { text = S.text out.old; faults = S.faults out.old })
-        (record { text = S.text out.new; faults = S.faults out.new })) ⊎ (EndsBreaking
-        (record { content = F.content folder.old; faults = F.faults folder.old; excesses = F.excesses folder.old })
-        (order_of (map string_bytes words.now.items))
-        (record { text = S.text out.old; faults = S.faults out.old })
-        (record { text = S.text out.new; faults = S.faults out.new })) }
-    ensures wide { result ≡ 2 → (EndsWide
-        (record { content = F.content folder.old; faults = F.faults folder.old; excesses = F.excesses folder.old })
-        (order_of (map string_bytes words.now.items))
-        (record { text = S.text out.old; faults = S.faults out.old })
-        (record { text = S.text out.new; faults = S.faults out.new })) ⊎ (EndsPassing
-        (record { content = F.content folder.old; faults = F.faults folder.old; excesses = F.excesses folder.old })
-        (order_of (map string_bytes words.now.items))
-        (record { text = S.text out.old; faults = S.faults out.old })
-        (record { text = S.text out.new; faults = S.faults out.new })) }
+    // What was put with 0, 1 and 2 means what this status says, of the files that the folder tells.
+    ensures means { result ≤ 2 → IsMeant (F.tells folder.old) (order_of (map string_bytes words.now.items)) (S.got out.old) (S.got out.new) result }
+
+    // Files that are told, without a fault of them or of the sink, have their answer put, unless memory runs out.
+    ensures complete { (order : Order) (a : Answer) → order_of (map string_bytes words.now.items) ≡ Some order
+        → ToldAnswers (F.tells folder.old) (F.tells folder.new) order a → (HasRisen (S.got out.old).faults (S.got out.new).faults → ⊥)
+        → IsAnswered a (S.got out.old) (S.got out.new) result }
     ensures no_command { result ≡ 4 → order_of (map string_bytes words.now.items) ≡ None }
     ensures usage { order_of (map string_bytes words.now.items) ≡ None → (result ≡ 4) ⊎ (result ≡ 6) ⊎ (result ≡ 7) }
 {
@@ -91,32 +54,42 @@ pub fn run<F: Folder, S: Sink>(
 
 /// The report on the words.
 fn report_on<F: Folder>(alloc: Global, words: &[String], folder: &mut F) -> Result<Report, NoMemory>
-    ensures { IfOk result (λ report. Answers
-        (record { content = F.content folder.old; faults = F.faults folder.old; excesses = F.excesses folder.old })
-        (record { content = F.content folder.new; faults = F.faults folder.new; excesses = F.excesses folder.new })
-        (order_of (map string_bytes words.now)) (shown report)) }
+    ensures { IfOk result (λ report. Answers (F.tells folder.old) (F.tells folder.new) (order_of (map string_bytes words.now)) (shown report)) }
 {
-    let answer = match command_of(words) {
-        None => return Ok(Report::usage(alloc)?),
-        Some(Command::Admit { question, trace }) => admit_files(alloc, folder, question, trace),
-        Some(
-            Command::Replay {
-                controller,
-                question,
-                trace,
-            },
-        ) => replay_files(alloc, folder, controller, question, trace),
-        Some(Command::Format { controller }) => format_file(alloc, folder, controller),
-        Some(
-            Command::FormatQuestion {
-                controller,
-                question,
-            },
-        ) => { format_files(alloc, folder, controller, question) }
+    let Some(command) = command_of(words) else {
+        return Ok(Report::usage(alloc)?);
     };
-    match answer {
+    match carried_out(alloc, folder, command) {
         Ok(report) | Err(Halt::Report(report)) => Ok(report),
         Err(Halt::NoMemory) => Err(NoMemory),
+    }
+}
+
+/// The report on a command.
+fn carried_out<F: Folder>(
+    alloc: Global,
+    folder: &mut F,
+    command: Command<'_>,
+) -> Result<Report, Halt>
+    ensures { Settled (F.tells folder.old) (F.tells folder.new) (ordered command.entry) result }
+{
+    match command {
+        Command::Admit { question, trace } => admit_files(alloc, folder, question, trace),
+        Command::Replay {
+            controller,
+            question,
+            trace,
+        } => replay_files(alloc, folder, controller, question, trace),
+        Command::Audit {
+            controller,
+            question,
+            cert,
+        } => audit_files(alloc, folder, controller, question, cert),
+        Command::Format { controller } => format_file(alloc, folder, controller),
+        Command::FormatQuestion {
+            controller,
+            question,
+        } => format_files(alloc, folder, controller, question),
     }
 }
 
@@ -127,17 +100,11 @@ fn admit_files<F: Folder>(
     question: &str,
     trace: &str,
 ) -> Result<Report, Halt>
-    ensures { Settled
-        (record { content = F.content folder.old; faults = F.faults folder.old; excesses = F.excesses folder.old })
-        (record { content = F.content folder.new; faults = F.faults folder.new; excesses = F.excesses folder.new })
-        (admit question.now trace.now) result }
+    ensures { Settled (F.tells folder.old) (F.tells folder.new) (admit question.now trace.now) result }
 {
     let question = fetch(alloc, folder, Source::Question, question)?;
     let trace = fetch(alloc, folder, Source::Trace, trace)?;
-    match admit(alloc, question.as_slice(), trace.as_slice()) {
-        Ok(report) => Ok(report),
-        Err(NoMemory) => Err(Halt::NoMemory),
-    }
+    admit(alloc, question.as_slice(), trace.as_slice())
 }
 
 /// Fetches the three files in their order, and answers to them.
@@ -148,37 +115,42 @@ fn replay_files<F: Folder>(
     question: &str,
     trace: &str,
 ) -> Result<Report, Halt>
-    ensures { Settled
-        (record { content = F.content folder.old; faults = F.faults folder.old; excesses = F.excesses folder.old })
-        (record { content = F.content folder.new; faults = F.faults folder.new; excesses = F.excesses folder.new })
-        (replay controller.now question.now trace.now) result }
+    ensures { Settled (F.tells folder.old) (F.tells folder.new) (replay controller.now question.now trace.now) result }
 {
-    let controller_text = fetch(alloc, folder, Source::Controller, controller)?;
-    let question_text = fetch(alloc, folder, Source::Question, question)?;
-    let trace_text = fetch(alloc, folder, Source::Trace, trace)?;
-    match replay(
+    let texts = fetch_three(alloc, folder, Source::Trace, controller, question, trace)?;
+    replay(
         alloc,
-        controller_text.as_slice(),
-        question_text.as_slice(),
-        trace_text.as_slice(),
-    ) {
-        Ok(report) => Ok(report),
-        Err(NoMemory) => Err(Halt::NoMemory),
-    }
+        texts.controller.as_slice(),
+        texts.question.as_slice(),
+        texts.third.as_slice(),
+    )
+}
+
+/// Fetches the three files in their order, and answers to them.
+fn audit_files<F: Folder>(
+    alloc: Global,
+    folder: &mut F,
+    controller: &str,
+    question: &str,
+    cert: &str,
+) -> Result<Report, Halt>
+    ensures { Settled (F.tells folder.old) (F.tells folder.new) (audit controller.now question.now cert.now) result }
+{
+    let texts = fetch_three(alloc, folder, Source::Cert, controller, question, cert)?;
+    audit(
+        alloc,
+        texts.controller.as_slice(),
+        texts.question.as_slice(),
+        texts.third.as_slice(),
+    )
 }
 
 /// Fetches the controller, and answers to it.
 fn format_file<F: Folder>(alloc: Global, folder: &mut F, controller: &str) -> Result<Report, Halt>
-    ensures { Settled
-        (record { content = F.content folder.old; faults = F.faults folder.old; excesses = F.excesses folder.old })
-        (record { content = F.content folder.new; faults = F.faults folder.new; excesses = F.excesses folder.new })
-        (format controller.now) result }
+    ensures { Settled (F.tells folder.old) (F.tells folder.new) (format controller.now) result }
 {
     let named = fetch(alloc, folder, Source::Controller, controller)?;
-    match format(alloc, named.as_slice()) {
-        Ok(report) => Ok(report),
-        Err(NoMemory) => Err(Halt::NoMemory),
-    }
+    format(alloc, named.as_slice())
 }
 
 /// Fetches both files, the controller's first, and answers to them.
@@ -188,28 +160,20 @@ fn format_files<F: Folder>(
     controller: &str,
     question: &str,
 ) -> Result<Report, Halt>
-    ensures { Settled
-        (record { content = F.content folder.old; faults = F.faults folder.old; excesses = F.excesses folder.old })
-        (record { content = F.content folder.new; faults = F.faults folder.new; excesses = F.excesses folder.new })
-        (format_question controller.now question.now) result }
+    ensures { Settled (F.tells folder.old) (F.tells folder.new) (format_question controller.now question.now) result }
 {
     let controller_bytes = fetch(alloc, folder, Source::Controller, controller)?;
     let question_bytes = fetch(alloc, folder, Source::Question, question)?;
-    match format_question(
+    format_question(
         alloc,
         controller_bytes.as_slice(),
         question_bytes.as_slice(),
-    ) {
-        Ok(report) => Ok(report),
-        Err(NoMemory) => Err(Halt::NoMemory),
-    }
+    )
 }
 
 /// Puts the report, and gives the status with which the call ends.
 fn deliver<S: Sink>(report: &Report, out: &mut S) -> u8
-    ensures { Delivered (shown report.now)
-        (record { text = S.text out.old; faults = S.faults out.old })
-        (record { text = S.text out.new; faults = S.faults out.new }) result }
+    ensures { Delivered (shown report.now) (S.got out.old) (S.got out.new) result }
 {
     match out.put(report.text.as_slice()) {
         Ok(()) => report.status,

@@ -449,3 +449,116 @@ fn fmt_puts_the_canonical_text(rt: HostRuntime) -> Result<(), Fail> {
     assert_eq!(rt; report.as_slice(), TIDY.as_bytes());
     Ok(())
 }
+
+/// A certificate of one lemma, which cites this clause of a problem of these sizes.
+macro_rules! citing {
+    ($first:literal $clauses:literal $clause:literal) => {
+        concat!($first, "ccac-cert 1\nsize 19 54 ", $clauses, "\nlemma 0\nc ", $clause, "\nend\n")
+    };
+}
+
+const EIGHT_STATES: &str =
+    "ccac-controller 1\nstate a data init 0 1\nstate b data init 0 1\nstate c data init 0 1\nstate d data init 0 1\nstate e data init 0 1\nstate f data init 0 1\nstate g data init 0 1\nstate h data init 0 1\nrule otherwise\nwindow 1\nend\n";
+
+const FOUR_FLOWS: &str =
+    "ccac-question 1\nflows 4\nsteps 32\nrate 1\njitter 0\nrtt 1\nbuffer none\nbudget 100000\nrequire true\nend\n";
+
+/// A controller, a question, a certificate, and the status and report to which `audit` comes. The question `EXACT` requires
+/// what is always true, so that clause 51 of its problem is empty, and clause 50 isn't.
+const AUDITS: [(&str, &str, &str, u8, &str); 12] = [
+    (FIXED_WINDOW, EXACT, citing!("" "52" "51"), 0, "proved\n"),
+    (
+        FIXED_WINDOW,
+        EXACT,
+        citing!("verified\n" "52" "51"),
+        0,
+        "proved\n",
+    ),
+    (
+        FIXED_WINDOW,
+        EXACT,
+        citing!("violated\n" "52" "51"),
+        0,
+        "proved\n",
+    ),
+    (
+        FIXED_WINDOW,
+        EXACT,
+        citing!("" "51" "51"),
+        1,
+        "fails lemma 0 node 0 cause K1\n",
+    ),
+    (
+        FIXED_WINDOW,
+        EXACT,
+        citing!("" "52" "50"),
+        1,
+        "fails lemma 0 node 1 cause K5\n",
+    ),
+    (
+        FIXED_WINDOW,
+        EXACT,
+        citing!("" "52" "052"),
+        3,
+        "refused cert F5 line 4\n",
+    ),
+    (
+        FIXED_WINDOW,
+        EXACT,
+        citing!("verified\n" "52" "052"),
+        3,
+        "refused cert F5 line 4\n",
+    ),
+    (
+        FIXED_WINDOW,
+        EXACT,
+        citing!("verified\nverified\n" "52" "51"),
+        3,
+        "refused cert F1 line 1\n",
+    ),
+    (
+        FIXED_WINDOW,
+        EXACT,
+        "ccac-cert 1\nsize 19 54 52\nlemma 0\nc 51\n",
+        3,
+        "refused cert F8 line 5\n",
+    ),
+    (
+        FIXED_WINDOW,
+        EXACT,
+        "verified",
+        3,
+        "refused cert F8 line 1\n",
+    ),
+    (
+        EIGHT_STATES,
+        FOUR_FLOWS,
+        "",
+        3,
+        "refused large forms 2048\n",
+    ),
+    ("", "", "", 3, "refused controller G1 line 1\n"),
+];
+
+#[test]
+fn audit_reports_what_the_certificate_proves(rt: HostRuntime) -> Result<(), Fail> {
+    let words = words_of(rt.alloc(), &["audit", "c", "q", "k"])?;
+    for (controller, question, cert, status, report) in AUDITS {
+        let mut folder = MemFolder::new(rt.alloc());
+        let mut sink = MemSink::new(rt.alloc());
+        assert_eq!(rt; folder.add("c", controller.as_bytes()), Ok(()));
+        assert_eq!(rt; folder.add("q", question.as_bytes()), Ok(()));
+        assert_eq!(rt; folder.add("k", cert.as_bytes()), Ok(()));
+        assert_eq!(rt; run(rt.alloc(), &words, &mut folder, &mut sink), status);
+        assert_eq!(rt; sink.text(), report.as_bytes());
+    }
+    Ok(())
+}
+
+#[test]
+fn a_certificate_that_is_missing_is_named(rt: HostRuntime) -> Result<(), Fail> {
+    let mut folder = folder_of_halves(rt.alloc())?;
+    assert_eq!(rt; folder.add("c", FIXED_WINDOW.as_bytes()), Ok(()));
+    assert_ends!(rt; ["audit", "c", "q", "missing"], folder, 5, "read fault cert\n");
+    Ok(())
+}

@@ -77,11 +77,11 @@ impl MemFolder {
 impl Folder for MemFolder {
     ghost use Rattle.ccac_ports.specs.MemFolder.{held, fails_at, calls, faults, excesses, answer, Gives, Counts, SameContent, SamePlan};
 
-    ghost content = { held };
-
-    ghost faults = { λ folder _. faults folder };
-
-    ghost excesses = { λ folder _. excesses folder };
+    ghost tells = { λ folder. record {
+      content = held folder;
+      faults = λ _. faults folder;
+      excesses = λ _. excesses folder;
+    } };
 
     fn fetch(&mut self, name: &str, limit: u64) -> Result<Vec<u8>, FetchFault>
         ensures given { Gives (answer self.old name.now limit) result }

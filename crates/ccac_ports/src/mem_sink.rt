@@ -58,9 +58,7 @@ impl Sink for MemSink {
     ghost use Rattle.ccac_ports.specs.Ports.{one_more};
     ghost use Rattle.ccac_ports.specs.MemSink.{text_of, calls, faults, faults_after, Gets, SamePlan};
 
-    ghost text = { λ sink. Some (text_of sink) };
-
-    ghost faults = { faults };
+    ghost got = { λ sink. record { text = Some (text_of sink); faults = faults sink } };
 
     fn put(&mut self, bytes: &[u8]) -> Result<(), PutFault>
         ensures got { Gets self.old self.new bytes.now result }

@@ -1,5 +1,5 @@
-ghost use Rattle.std.specs.Prelude.{◌≡◌, ℕ, ◌<◌, ◌≤◌, List, length, take, IfOk, IfSome, OnOk, OnErr, IsErrOf, Option};
-ghost use Rattle.ccac_ports.specs.Ports.{HasRisen, Appends, Tells};
+ghost use Rattle.std.specs.Prelude.{◌≡◌, ℕ, ◌<◌, ◌≤◌, List, length, take, IfOk, IfSome, OnOk, OnErr, IsErrOf};
+ghost use Rattle.ccac_ports.specs.Ports.{HasRisen, Appends, Got, Tells, Told};
 
 use std::alloc::AllocError;
 use thiserror::Error;
@@ -51,14 +51,9 @@ impl From<AllocError> for PutFault {
 /// For each name a folder has a count of faults and a count of excesses. Each count goes up to
 /// `2^64 - 1` and stays there. A folder may keep one number for all names.
 pub trait Folder {
-    /// The bytes that a name holds, where the folder tells them.
-    ghost content: { Self → List ℕ → Option (List ℕ) };
-
-    /// How often a name couldn't be read.
-    ghost faults: { Self → List ℕ → ℕ };
-
-    /// How often a name held more bytes than were allowed.
-    ghost excesses: { Self → List ℕ → ℕ };
+    /// What each name holds, where the folder tells it; how often it couldn't be read; and how often it held more bytes
+    /// than were allowed.
+    ghost tells: { Self → Told };
 
     /// The bytes of the file `name`, of which there may be at most `limit`.
     ///
@@ -66,34 +61,32 @@ pub trait Folder {
     /// answer but `TooLong` is left where no fault came.
     fn fetch(&mut self, name: &str, limit: u64) -> Result<Vec<u8>, FetchFault>
         ensures within { IfOk result (λ bytes. length bytes.items ≤ limit) }
-        ensures told { IfOk result (λ bytes. Tells (content self.old name.now) bytes.items) }
+        ensures told { IfOk result (λ bytes. Tells ((tells self.old).content name.now) bytes.items) }
         ensures failed { IsErrOf result FetchFault.Failed →
-            HasRisen (faults self.old name.now) (faults self.new name.now) }
+            HasRisen ((tells self.old).faults name.now) ((tells self.new).faults name.now) }
         ensures exceeded { IsErrOf result FetchFault.TooLong →
-            HasRisen (excesses self.old name.now) (excesses self.new name.now) }
+            HasRisen ((tells self.old).excesses name.now) ((tells self.new).excesses name.now) }
         ensures longer { IsErrOf result FetchFault.TooLong →
-            IfSome (content self.old name.now) (λ held.
-            (limit < length held) × (faults self.new name.now ≡ faults self.old name.now)) }
+            IfSome ((tells self.old).content name.now) (λ held.
+            (limit < length held) × ((tells self.new).faults name.now ≡ (tells self.old).faults name.now)) }
 
         // Neither count of any name falls, and no content changes.
-        ensures faults_stay { (other : List ℕ) → faults self.old other ≤ faults self.new other }
-        ensures excesses_stay { (other : List ℕ) → excesses self.old other ≤ excesses self.new other }
-        ensures kept { (other : List ℕ) → content self.new other ≡ content self.old other };
+        ensures faults_stay { (other : List ℕ) → (tells self.old).faults other ≤ (tells self.new).faults other }
+        ensures excesses_stay { (other : List ℕ) → (tells self.old).excesses other ≤ (tells self.new).excesses other }
+        ensures kept { (other : List ℕ) → (tells self.new).content other ≡ (tells self.old).content other };
 }
 
 /// Where a report is put.
 pub trait Sink {
-    /// The text that the sink got, where it tells it.
-    ghost text: { Self → Option (List ℕ) };
-
-    /// How often the sink couldn't take a text; it stays at `2^64 - 1`.
-    ghost faults: { Self → ℕ };
+    /// The text that the sink got, where it tells it, and how often it couldn't take one: a count that stays at
+    /// `2^64 - 1`.
+    ghost got: { Self → Got };
 
     /// Appends the bytes to the text. After a refusal a prefix of them was appended, perhaps an
     /// empty one. `NoMemory` may come at any time.
     fn put(&mut self, bytes: &[u8]) -> Result<(), PutFault>
-        ensures ok { OnOk result (Appends (text self.old) (text self.new) bytes.now) }
-        ensures refused { OnErr result ((n : ℕ) × Appends (text self.old) (text self.new) (take n bytes.now)) }
-        ensures failed { IsErrOf result PutFault.Failed → HasRisen (faults self.old) (faults self.new) }
-        ensures stays { faults self.old ≤ faults self.new };
+        ensures ok { OnOk result (Appends (got self.old).text (got self.new).text bytes.now) }
+        ensures refused { OnErr result ((n : ℕ) × Appends (got self.old).text (got self.new).text (take n bytes.now)) }
+        ensures failed { IsErrOf result PutFault.Failed → HasRisen (got self.old).faults (got self.new).faults }
+        ensures stays { (got self.old).faults ≤ (got self.new).faults };
 }

@@ -47,11 +47,11 @@ impl<'a, R: Files> Folder for RealFolder<'a, R> {
     ghost use Rattle.std.specs.Prelude.{None};
     ghost use Rattle.ccac_ports.specs.RealFolder.{faults, excesses};
 
-    ghost content = { λ _ _. None };
-
-    ghost faults = { λ folder _. faults folder };
-
-    ghost excesses = { λ folder _. excesses folder };
+    ghost tells = { λ folder. record {
+      content = λ _. None;
+      faults = λ _. faults folder;
+      excesses = λ _. excesses folder;
+    } };
 
     fn fetch(&mut self, name: &str, limit: u64) -> Result<Vec<u8>, FetchFault> {
         let mut file = match File::open(self.rt, name) {

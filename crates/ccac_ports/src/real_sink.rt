@@ -26,9 +26,7 @@ impl<'a, R: Print> Sink for RealSink<'a, R> {
     ghost use Rattle.std.specs.Prelude.{None};
     ghost use Rattle.ccac_ports.specs.RealSink.{faults};
 
-    ghost text = { λ _. None };
-
-    ghost faults = { faults };
+    ghost got = { λ sink. record { text = None; faults = faults sink } };
 
     fn put(&mut self, bytes: &[u8]) -> Result<(), PutFault> {
         let mut output = io::writer(self.rt);

@@ -23,15 +23,15 @@ enum Joined {
 /// any folder and any sink, by the clauses of the traits alone.
 fn join<F: Folder, S: Sink>(folder: &mut F, sink: &mut S, names: (&str, &str), limit: u64) -> Joined
     ensures whole { result ≡ Joined.Whole → ((one : List ℕ) × ((two : List ℕ) ×
-        (Tells (F.content folder.old names.entry.0.now) one
-        × Tells (F.content folder.old names.entry.1.now) two
-        × Appends (S.text sink.old) (S.text sink.new) (one ++ two)))) }
+        (Tells ((F.tells folder.old).content names.entry.0.now) one
+        × Tells ((F.tells folder.old).content names.entry.1.now) two
+        × Appends (S.got sink.old).text (S.got sink.new).text (one ++ two)))) }
     ensures first { result ≡ Joined.FirstFailed →
-        HasRisen (F.faults folder.old names.entry.0.now) (F.faults folder.new names.entry.0.now) }
+        HasRisen ((F.tells folder.old).faults names.entry.0.now) ((F.tells folder.new).faults names.entry.0.now) }
     ensures second { result ≡ Joined.SecondFailed →
-        HasRisen (F.faults folder.old names.entry.1.now) (F.faults folder.new names.entry.1.now) }
-    ensures put { result ≡ Joined.PutFailed → HasRisen (S.faults sink.old) (S.faults sink.new) }
-    ensures part { (report : List ℕ) × ((n : ℕ) × Appends (S.text sink.old) (S.text sink.new) (take n report)) }
+        HasRisen ((F.tells folder.old).faults names.entry.1.now) ((F.tells folder.new).faults names.entry.1.now) }
+    ensures put { result ≡ Joined.PutFailed → HasRisen (S.got sink.old).faults (S.got sink.new).faults }
+    ensures part { (report : List ℕ) × ((n : ℕ) × Appends (S.got sink.old).text (S.got sink.new).text (take n report)) }
 {
     let one = match folder.fetch(names.0, limit) {
         Ok(one) => one,

@@ -1,6 +1,7 @@
 use Rattle.std.proofs.Common.{◌≡◌, sym, subst, ap, Err, ℕ, List, length, ◌<◌, Option, None, Some}
 use Rattle.std.specs.Prelude.{IfSome}
-use Rattle.ccac_cli.specs.Fetched.{FetchEnds, Told, faulty, longer}
+use Rattle.ccac_ports.specs.Ports.{Told}
+use Rattle.ccac_cli.specs.Fetched.{FetchEnds, faulty, longer}
 use Rattle.ccac_cli.specs.Reports.{Answer}
 use Rattle.ccac_cli.specs.declared.reports.Source.{Source}
 use Rattle.ccac_cli.proofs.fetching.fetch.Goals as goal

@@ -1,4 +1,5 @@
 use Rattle.ccac_cli.proofs.OneAnswer.{admitted_once, answered_once, formatted_once}
+use Rattle.ccac_cli.proofs.OneAudit.{audited_once}
 use Rattle.ccac_cli.proofs.OneReplay.{question_formatted_once, replayed_once}
 use Rattle.ccac_cli.proofs.laws.one_answer.Goals as goal
 
@@ -11,8 +12,11 @@ returns-clause-formatted c = formatted_once
 pub returns-clause-replayed : goal.returns-clause-replayed
 returns-clause-replayed c = replayed_once
 
+pub returns-clause-audited : goal.returns-clause-audited
+returns-clause-audited c = audited_once
+
 pub returns-clause-questions_formatted : goal.returns-clause-questions_formatted
 returns-clause-questions_formatted c = question_formatted_once
 
-pub returns-clause-of_the_bytes : goal.returns-clause-of_the_bytes
-returns-clause-of_the_bytes c = answered_once
+pub returns-clause-of_the_files : goal.returns-clause-of_the_files
+returns-clause-of_the_files c = answered_once

@@ -13,16 +13,16 @@ part_of old new n bytes text same put = subst (λ b. Appends old new (take n b))
 
 pub returns-in-Ok : goal.returns-in-Ok
 returns-in-Ok g c =
-    put_whole (all_of (g.S.Sink.text c.args.out.now) (g.S.Sink.text c.put.new.self) _ _ c.as_slice.ensures.value c.in-Ok.ensures.ok)
+    put_whole (all_of (g.S.Sink.got c.args.out.now).text (g.S.Sink.got c.put.new.self).text _ _ c.as_slice.ensures.value c.in-Ok.ensures.ok)
 
 pub returns-in-Err-Failed : goal.returns-in-Err-Failed
 returns-in-Err-Failed g c =
     put_failed (c.in-Err-Failed.ensures.failed (ap Err c.in-Err-Failed.field-0-is)) c.in-Err-Failed.ensures.refused.0
-    (part_of (g.S.Sink.text c.args.out.now) (g.S.Sink.text c.put.new.self) c.in-Err-Failed.ensures.refused.0 _ _
+    (part_of (g.S.Sink.got c.args.out.now).text (g.S.Sink.got c.put.new.self).text c.in-Err-Failed.ensures.refused.0 _ _
     c.as_slice.ensures.value c.in-Err-Failed.ensures.refused.1)
 
 pub returns-in-Err-NoMemory : goal.returns-in-Err-NoMemory
 returns-in-Err-NoMemory g c =
     put_without_memory c.in-Err-NoMemory.ensures.refused.0
-    (part_of (g.S.Sink.text c.args.out.now) (g.S.Sink.text c.put.new.self) c.in-Err-NoMemory.ensures.refused.0 _ _
+    (part_of (g.S.Sink.got c.args.out.now).text (g.S.Sink.got c.put.new.self).text c.in-Err-NoMemory.ensures.refused.0 _ _
     c.as_slice.ensures.value c.in-Err-NoMemory.ensures.refused.1)

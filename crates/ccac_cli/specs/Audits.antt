@@ -1,0 +1,43 @@
+-- What is answered to a controller, a question and a certificate: the first of the texts that is refused, in this order, but the
+-- problem's size comes before the certificate; then what comes of checking the certificate.
+use Rattle.std.specs.Prelude.{◌≡◌, ℕ, ◌||◌, List, length, drop, nat_eq, codes, Result, Ok, Err, if◌then◌else◌}
+use Rattle.std.specs.List.{starts_with}
+use Rattle.whole.specs.declared.answers.Refusal.{Refusal}
+use Rattle.run_rows.specs.Columns.{entries_of}
+use Rattle.ctrl_types.specs.declared.controllers.Controller.{Controller}
+use Rattle.ctrl_meaning.specs.Flows.{shape_for}
+use Rattle.question_text.specs.declared.questions.Question.{Question}
+use Rattle.farkas_cert.specs.declared.certificates.Cert.{Cert}
+use Rattle.clause_form.specs.Building.{clauses_of, limit_of}
+use Rattle.clause_form.specs.declared.clauses.Clauses.{Clauses}
+use Rattle.clause_form.specs.declared.clauses.What.{What}
+use Rattle.unroll.specs.Problems.{problem_formulas}
+use Rattle.cert_check.specs.Verdicts.{verdict}
+use Rattle.cert_text.specs.Rules.{IsRefused}
+use Rattle.cert_text.specs.Spelling.{IsCertText, certificate}
+use Rattle.ccac_cli.specs.Asked.{Asks}
+use Rattle.ccac_cli.specs.Reports.{Answer, check_report, refused, too_large}
+use Rattle.ccac_cli.specs.declared.reports.Source.TheVariants.{Cert as CertFile}
+
+-- the text of a certificate in a file: a saved report of a search is a line with its verdict, and then that text
+abbrev pub behind_verdict : List ℕ → List ℕ
+behind_verdict bytes =
+    if starts_with nat_eq bytes (codes "verified\n") || starts_with nat_eq bytes (codes "violated\n") then drop 9 bytes else bytes
+
+-- the clauses that have a model exactly where some run violates the question, or the limit that they would pass first
+abbrev pub problem_of : Controller → Question → Result Clauses What
+problem_of c q = clauses_of (length (entries_of (shape_for c q.setting))) (problem_formulas c q)
+
+-- the one answer to a certificate's file, about a problem
+pub data CertAnswers (problem : Clauses) (file : List ℕ) : Answer → Type 0 where
+  cert_refused : (r : Refusal) → IsRefused (behind_verdict file) r → CertAnswers problem file (refused CertFile r)
+  checked : (cert : Cert) → IsCertText (behind_verdict file) (certificate cert) → CertAnswers problem file (check_report (verdict problem cert))
+
+-- the one answer to it, where a controller is asked a question
+pub data ProblemAnswers (file : List ℕ) (c : Controller) (q : Question) : Answer → Type 0 where
+  large : (what : What) → problem_of c q ≡ Err what → ProblemAnswers file c q (too_large what (limit_of what))
+  unrolled : (problem : Clauses) (a : Answer) → problem_of c q ≡ Ok problem → CertAnswers problem file a → ProblemAnswers file c q a
+
+-- the one answer to these bytes
+abbrev pub AuditAnswers : List ℕ → List ℕ → List ℕ → Answer → Type 0
+AuditAnswers controller question file = Asks controller question (ProblemAnswers file)
