@@ -1,4 +1,5 @@
 pub mod Limits
+pub mod InForce
 pub mod Keeping
 pub mod Corners
 pub mod Moves

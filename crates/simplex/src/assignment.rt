@@ -70,6 +70,13 @@ impl<F: OrderedField> Assignment<F> {
         self.tableau.variables()
     }
 
+    /// How many columns the tableau was made with.
+    pub(crate) fn columns(&self) -> u32
+        ensures { result ≡ self.now.table.columns }
+    {
+        self.tableau.columns()
+    }
+
     pub(crate) fn is_basic(&self, variable: u32) -> bool
         requires { variable < variables self.now.table }
         ensures { result ≡ is_basic self.now.table variable }

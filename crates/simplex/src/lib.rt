@@ -14,6 +14,8 @@ mod repair;
 mod setting;
 mod simplex;
 mod step;
+#[cfg(test)]
+mod tests;
 mod turn;
 
 pub use laws::conflicts_cancel_columns;

@@ -1,7 +1,10 @@
 //! Which bound holds for a variable? The last one that was put in force on its side, and a look-up tells it.
 
-ghost use Rattle.std.specs.Prelude.{◌≡◌, ◌+◌, ◌<◌, ◌≤◌, ◌^◌, ◌++◌, ◌∷◌, [], length, take, IfOk, OnOk, OnErr};
+ghost use Rattle.std.specs.Prelude.{◌≡◌, ◌+◌, ◌<◌, ◌≤◌, ◌^◌, ◌++◌, ◌∷◌, [], length, take, option_map, IfOk, OnOk, OnErr};
+ghost use Rattle.ordered_field.specs.Delta.{delta_value};
 ghost use Rattle.simplex.specs.Limits.{in_force};
+ghost use Rattle.simplex.specs.InForce.{number_in_force};
+ghost use Rattle.simplex.specs.States.{limits_in};
 ghost use Rattle.simplex.specs.Keeping.{side_of, with_side, IsOneMore};
 
 use ordered_field::{Delta, OrderedField};
@@ -82,6 +85,18 @@ impl<F: OrderedField> Limits<F> {
         ensures { result ≡ in_force upper variable self.now.limits }
     {
         side(self.sides[variable as usize], upper)
+    }
+
+    /// The number of the bound of a variable in force on this side.
+    pub(crate) fn number_in_force(&self, upper: bool, variable: u32) -> Option<Delta<F>>
+        requires { variable < self.now.variables }
+        ensures { option_map (delta_value F.value) result
+            ≡ number_in_force upper variable (limits_in F.value self.now.limits) }
+    {
+        match self.in_force(upper, variable) {
+            Some(limit) => Some(limit.at),
+            None => None,
+        }
     }
 
     /// Puts a bound in force.

@@ -1,7 +1,7 @@
 //! Bounds are asserted one after the other (`assert upper` and `assert lower` of the paper), and `check` repairs the
 //! values pivot by pivot.
 
-ghost use Rattle.std.specs.Prelude.{◌≡◌, ◌+◌, ◌<◌, ◌≤◌, ◌^◌, ◌↔◌, ℕ, pos, ◌≤ℤ◌, None, [], take, length, IfOk, OnOk, IfErr};
+ghost use Rattle.std.specs.Prelude.{◌≡◌, ◌+◌, ◌<◌, ◌≤◌, ◌^◌, ◌↔◌, ℕ, pos, ◌≤ℤ◌, None, [], take, length, option_map, true, false, IfOk, OnOk, IfErr};
 ghost use Rattle.ordered_field.specs.Delta.{delta_value};
 ghost use Rattle.ordered_field.specs.Rational.{ℚ};
 ghost use Rattle.whole.specs.Budget.{counts};
@@ -13,6 +13,7 @@ ghost use Rattle.tableau.specs.Opening.{IsOpening, IsStuckCoefficient};
 ghost use Rattle.simplex.specs.States.{corner, IsSound, Repeats, rest_of, zero_delta};
 ghost use Rattle.simplex.specs.Bounds.{AnswersBound};
 ghost use Rattle.simplex.specs.Checks.{AnswersCheck};
+ghost use Rattle.simplex.specs.InForce.{number_in_force};
 
 use crate::assignment::Assignment;
 use crate::limits::Limits;
@@ -141,6 +142,37 @@ impl<F: OrderedField> Simplex<F> {
         ensures { result.now.items ≡ self.now.pivots }
     {
         &self.pivots
+    }
+
+    /// How many variables there are: the columns, and one for each row.
+    pub fn variables(&self) -> u32
+        ensures count { result ≡ variables self.now.table }
+        ensures sound { IsSound F.value self.now }
+    {
+        self.assignment.variables()
+    }
+
+    /// How many columns it was made with: the variables below this number.
+    pub fn columns(&self) -> u32
+        ensures { result ≡ self.now.table.columns }
+    {
+        self.assignment.columns()
+    }
+
+    /// The number that a variable is at least, if a lower bound of it is in force.
+    pub fn lower(&self, var: u32) -> Option<Delta<F>>
+        requires { var < variables self.now.table }
+        ensures { option_map (delta_value F.value) result ≡ number_in_force false var (corner F.value self.now).limits }
+    {
+        self.limits.number_in_force(false, var)
+    }
+
+    /// The number that a variable is at most, if an upper bound of it is in force.
+    pub fn upper(&self, var: u32) -> Option<Delta<F>>
+        requires { var < variables self.now.table }
+        ensures { option_map (delta_value F.value) result ≡ number_in_force true var (corner F.value self.now).limits }
+    {
+        self.limits.number_in_force(true, var)
     }
 
     /// The value of a variable.

@@ -2,7 +2,7 @@
 use Rattle.std.proofs.Common.{◌≡◌, ℕ, ◌<◌, ◌≤◌, List, [], length, get_or, set, ◌⊎◌, inl, inr, true, false, pos, refl, sym, ap, subst, ◌∙◌, arith, get_or-set_same, get_or-set_other, lit≤}
 use Rattle.std.specs.List.{All, Any, Contains}
 use Rattle.std.proofs.lemmas.List.{length-set}
-use Rattle.std.proofs.lemmas.List.Elements.{All-weaker, All-contains}
+use Rattle.std.proofs.lemmas.List.Elements.{All-nil, All-weaker, All-contains}
 use Rattle.std.proofs.lemmas.Bool.{cases_eq}
 use Rattle.ordered_field.specs.Rational.{ℚ, whole, ◌*ℚ◌}
 use Rattle.ordered_field.specs.Wideness.{Exceeds, SumIsWide, FmaIsWide}
@@ -11,7 +11,7 @@ use Rattle.field_rows.specs.Rows.{coefficient, IsRow, without, AreQuotients, IsS
 use Rattle.field_rows.specs.Zeros.{ZeroFits}
 use Rattle.field_rows.specs.declared.row.Entry.{Entry}
 use Rattle.field_rows.proofs.RowLaws.{coefficient-none}
-use Rattle.field_rows.proofs.SumLaws.{put-here, put-elsewhere}
+use Rattle.field_rows.proofs.SumLaws.{same_or_apart, put-here, put-elsewhere}
 use Rattle.field_rows.proofs.ZeroLaws.{zero_exceeds_not, zero_itself_fits}
 use Rattle.tableau.specs.Tables.{Table, variables, is_basic, entry, IsTable}
 use Rattle.tableau.specs.Exchange.{IsExchanged, ExchangeFits}
@@ -257,6 +257,30 @@ module _ {F : Type 0} (limit : ℕ) (value : F → ℚ) (b o : ℕ) (old new : T
         named = names_after;
       };
     }
+
+-- no row has a basic variable, so the names at it may go
+pub forgotten : {F : Type 0} (value : F → ℚ) (t : Table F) (users : List (List ℕ)) (o : ℕ) → is_basic t o ≡ true → IsLaidOut value t users → IsLaidOut value t (set users o [])
+forgotten value t users o basic laid = record {
+  table = laid.table;
+  basic = laid.basic;
+  rows = laid.rows;
+  names = record {
+    count = length-set users o [] ∙ laid.names.count;
+    within = λ v. all_below v (same_or_apart o v);
+    named = λ b v some. still_named b v some (same_or_apart o v);
+  };
+}
+  where
+    inside : o < length users
+    inside = subst (λ n. o < n) (sym laid.names.count) (laid.table.basic o basic)
+
+    all_below : (v : ℕ) → (v ≡ o) ⊎ (v ≡ o → ⊥) → All (λ b. b < variables t) (get_or (set users o []) v [])
+    all_below v (inl same) = subst (λ ns. All (λ b. b < variables t) ns) (sym (ap (λ k. get_or (set users o []) k []) same ∙ get_or-set_same users o [] [] inside)) (All-nil (λ b. b < variables t))
+    all_below v (inr apart) = subst (λ ns. All (λ b. b < variables t) ns) (sym (get_or-set_other users o v [] [] apart)) (laid.names.within v)
+
+    still_named : (b v : ℕ) → (entry value t b v ≡ whole (pos 0) → ⊥) → (v ≡ o) ⊎ (v ≡ o → ⊥) → Contains (get_or (set users o []) v []) b
+    still_named b v some (inl same) = absurd (some (laid.table.at_basic b v (subst (λ k. is_basic t k ≡ true) (sym same) basic)))
+    still_named b v some (inr apart) = subst (λ ns. Contains ns b) (sym (get_or-set_other users o v [] [] apart)) (laid.names.named b v some)
 
 -- names alone may be added
 pub names_grown : {F : Type 0} (value : F → ℚ) (t : Table F) (users users' : List (List ℕ)) → IsLaidOut value t users → IsGrown users users' → AreBelow (variables t) users' → IsLaidOut value t users'

@@ -6,3 +6,4 @@ pub mod LayoutLaws
 pub mod OperationLaws
 pub mod TermLaws
 pub mod OpeningLaws
+pub mod EndLaws

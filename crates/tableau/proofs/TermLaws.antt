@@ -4,13 +4,13 @@ use Rattle.std.specs.Global.{Vec}
 use Rattle.std.specs.List.{All}
 use Rattle.std.proofs.lemmas.Bool.{eq-eqb, ne_eqb, cases_eq}
 use Rattle.std.proofs.lemmas.List.{take_more, get_or-take, length-take-le, get_or_default}
-use Rattle.std.proofs.lemmas.List.Elements.{All-head, All-tail}
+use Rattle.std.proofs.lemmas.List.Elements.{All-nil, All-cons, All-head, All-tail}
 use Rattle.ordered_field.specs.Rational.{ℚ, whole, ◌+ℚ◌, ◌*ℚ◌}
 use Rattle.ordered_field.proofs.RingLaws.{zero-*ℚ, +ℚ-zero}
 use Rattle.field_rows.specs.Rows.{row_value, put}
 use Rattle.field_rows.specs.Sums.{sum_below}
 use Rattle.field_rows.proofs.SumLaws.{sum_below-same, sum_below-split, put-here, put-elsewhere}
-use Rattle.tableau.specs.Terms.{form, coefficient_of, form_value, AreTerms}
+use Rattle.tableau.specs.Terms.{form, coefficient_of, form_value, AreTerms, AreForms}
 use Rattle.tableau.specs.declared.terms.RowTerm.{RowTerm}
 
 pub form-at : (forms : List (Vec RowTerm)) (i : ℕ) (d : Vec RowTerm) → i < length forms → form forms i ≡ (get_or forms i d).items
@@ -24,6 +24,22 @@ unfolding form
 form-past [] j past = refl
 form-past (r ∷ rs) zero past = absurd (omega arith)
 form-past (r ∷ rs) (suc j) past = form-past rs j (omega arith)
+
+-- the forms of one list of terms
+pub one_form : (n : ℕ) (rows : List (Vec RowTerm)) (ts : Vec RowTerm) → rows ≡ ts ∷ [] → AreTerms n ts.items → AreForms n rows
+unfolding form
+one_form n rows ts e h j = subst (λ l. AreTerms n (form l j)) (sym e) (at j)
+  where
+    at : (j : ℕ) → AreTerms n (form (ts ∷ []) j)
+    at zero = h
+    at (suc j) = tt
+
+pub two_terms : (n : ℕ) (a b : RowTerm) → a.var < n → b.var < n → (b.var ≡ a.var → ⊥) → AreTerms n (a ∷ b ∷ [])
+two_terms n a b p q apart = (
+  p,
+  All-cons (λ u. u.var ≡ a.var → ⊥) b [] apart (All-nil (λ u. u.var ≡ a.var → ⊥)),
+  (q, All-nil (λ u. u.var ≡ b.var → ⊥), tt),
+)
 
 pub coefficient_of-none : (v : ℕ) → coefficient_of [] v ≡ pos 0
 unfolding coefficient_of

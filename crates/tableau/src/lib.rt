@@ -11,6 +11,8 @@ mod names;
 mod opening;
 mod tableau;
 mod terms;
+#[cfg(test)]
+mod tests;
 
 pub use fault::PivotFault;
 pub use tableau::Tableau;

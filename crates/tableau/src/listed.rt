@@ -49,6 +49,13 @@ impl<T> Listed<T> {
 }
 
 impl Listed<u32> {
+    /// Takes all names away.
+    pub(crate) fn clear(&mut self)
+        ensures { self.new ≡ [] }
+    {
+        self.items.clear();
+    }
+
     /// Adds a name at its place in the rising order, unless it stands there.
     pub(crate) fn name(&mut self, name: u32) -> Result<(), AllocError>
         ensures kept { (b : ℕ) → Contains self.old b → Contains self.new b }

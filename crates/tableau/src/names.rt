@@ -1,6 +1,6 @@
 //! Which rows may have a variable? Each variable has the list of their names, so that a pivot visits no others.
 
-ghost use Rattle.std.specs.Prelude.{◌≡◌, ◌<◌, [], ℕ, All, Contains, OnOk, IfOk, length, get_or};
+ghost use Rattle.std.specs.Prelude.{◌≡◌, ◌<◌, [], ℕ, All, Contains, OnOk, IfOk, length, get_or, set};
 ghost use Rattle.field_rows.specs.declared.row.Entry.{Entry};
 ghost use Rattle.tableau.specs.Layout.{IsGrown, AreBelow};
 
@@ -72,6 +72,14 @@ pub(crate) fn name_exchange<F: OrderedField>(
         Ok(()) => name_followed(users, solved, followed),
         Err(fault) => Err(fault),
     }
+}
+
+/// Takes away the names at a variable.
+pub(crate) fn forget(users: &mut Vec<Listed<u32>>, variable: u32)
+    requires { variable < length users.old.items }
+    ensures { users.new.items ≡ set users.old.items variable [] }
+{
+    users[variable as usize].clear();
 }
 
 // Names each followed row at each of these entries' variables.

@@ -1,8 +1,8 @@
 //! The rows that some forms define.
 
-ghost use Rattle.std.specs.Prelude.{◌≡◌, ◌+◌, ◌<◌, ◌≤◌, ◌^◌, ℕ, All, IfOk, OnOk, IfErr, length, get_or, unsigned_abs, pos, false};
+ghost use Rattle.std.specs.Prelude.{◌≡◌, ◌+◌, ◌<◌, ◌≤◌, ◌^◌, ◌↔◌, IsTrue, ℕ, All, IfOk, OnOk, IfErr, length, get_or, unsigned_abs, pos, true, false};
 ghost use Rattle.ordered_field.specs.Rational.{whole};
-ghost use Rattle.field_rows.specs.Rows.{coefficient, IsRow, put};
+ghost use Rattle.field_rows.specs.Rows.{coefficient, IsRow, IsRowWithin, put};
 ghost use Rattle.whole.specs.declared.answers.Op.TheVariants.{Product};
 ghost use Rattle.whole.specs.declared.answers.Place.TheVariants.{Bound};
 ghost use Rattle.tableau.specs.Terms.{AreTerms, AreForms, CoefficientsFit};
@@ -79,7 +79,7 @@ fn row_of<F: OrderedField>(
 {
     let mut row = Vec::new(alloc);
     for term in terms {
-        match with_term(alloc, row.as_slice(), variable, *term) {
+        match with_term(alloc, row, variable, *term) {
             Ok(more) => row = more,
             Err(fault) => return Err(fault),
         }
@@ -87,24 +87,80 @@ fn row_of<F: OrderedField>(
     Ok(Listed::from_vec(row))
 }
 
-/// A row with one more term.
+/// A row with one more term. A term of a variable behind those of the row is added at its end, so a form whose variables
+/// rise takes as many steps as it has terms.
 fn with_term<F: OrderedField>(
     alloc: Global,
-    row: &[Entry<F>],
+    row: Vec<Entry<F>>,
     variable: u32,
     term: RowTerm,
 ) -> Result<Vec<Entry<F>>, PivotFault>
-    requires { IsRow F.value row.now }
+    requires { IsRow F.value row.items }
     ensures row { IfOk result (λ more. IsRow F.value more.items) }
     ensures entries { IfOk result (λ more. (v : ℕ) → coefficient F.value more.items v
-        ≡ put term.var (whole term.coef) (coefficient F.value row.now) v) }
+        ≡ put term.var (whole term.coef) (coefficient F.value row.items) v) }
     ensures kept { OnOk result (unsigned_abs term.coef ≤ F.LIMIT) }
     ensures stuck { IfErr result (λ fault. IfStuck fault (IsStuckNumber F.LIMIT variable term)) }
 {
     let number = number_of(variable, term)?;
-    let mut more = Vec::new(alloc);
-    put(alloc, row, term.var, number, &mut more)?;
+    let more = with_entry(alloc, row, term.var, number)?;
     Ok(more)
+}
+
+/// A row with this number as its coefficient of a variable.
+fn with_entry<F: OrderedField>(
+    alloc: Global,
+    row: Vec<Entry<F>>,
+    variable: u32,
+    number: F,
+) -> Result<Vec<Entry<F>>, AllocError>
+    requires { IsRow F.value row.items }
+    ensures row { IfOk result (λ more. IsRow F.value more.items) }
+    ensures entries { IfOk result (λ more. (v : ℕ) → coefficient F.value more.items v
+        ≡ put variable (F.value number) (coefficient F.value row.items) v) }
+{
+    if is_behind(row.as_slice(), variable) {
+        return with_last(row, variable, number);
+    }
+    let mut more = Vec::new(alloc);
+    put(alloc, row.as_slice(), variable, number, &mut more)?;
+    Ok(more)
+}
+
+/// Whether a variable is greater than all of a row.
+fn is_behind<F: OrderedField>(row: &[Entry<F>], variable: u32) -> bool
+    requires { IsRow F.value row.now }
+    ensures { result ≡ true → IsRowWithin F.value 0 variable row.now }
+{
+    match row.split_last() {
+        Some((last, _)) => last.variable < variable,
+        None => true,
+    }
+}
+
+/// A row with one more entry at its end, which is left out where its number is zero.
+fn with_last<F: OrderedField>(
+    row: Vec<Entry<F>>,
+    variable: u32,
+    number: F,
+) -> Result<Vec<Entry<F>>, AllocError>
+    requires { IsRowWithin F.value 0 variable row.items }
+    ensures row { IfOk result (λ more. IsRow F.value more.items) }
+    ensures entries { IfOk result (λ more. (v : ℕ) → coefficient F.value more.items v
+        ≡ put variable (F.value number) (coefficient F.value row.items) v) }
+{
+    let mut row = row;
+    if is_zero(number) {
+        return Ok(row);
+    }
+    row.push(Entry { variable, number })?;
+    Ok(row)
+}
+
+fn is_zero<F: OrderedField>(number: F) -> bool
+    ensures { IsTrue result ↔ (F.value number ≡ whole (pos 0)) }
+{
+    number.sign() == 0
 }
 
 /// The coefficient of a term as a number of the field.

@@ -1,5 +1,6 @@
 //! A tableau keeps the row of each variable as the list of its entries that aren't zero, and for each variable a list
-//! of the rows that may have it. So a pivot visits the rows that change and no others.
+//! of the rows that may have it. So a pivot visits the rows that change, and a few that once had the variable. The list
+//! of a variable that enters is emptied, since no row has it then.
 
 ghost use Rattle.std.specs.Prelude.{◌≡◌, ◌+◌, ◌^◌, ◌<◌, ◌↔◌, ℕ, All, Contains, IsTrue, true, IfOk, OnOk, OnErr, IfErr, length, pos};
 ghost use Rattle.ordered_field.specs.Rational.{ℚ, whole};
@@ -13,7 +14,7 @@ ghost use Rattle.tableau.specs.Exchange.{IsExchanged, ExchangeFits, IsStuckExcha
 use crate::exchange::{exchange_flags, formed, put_in_place};
 use crate::fault::PivotFault;
 use crate::listed::{Listed, list_at};
-use crate::names::name_exchange;
+use crate::names::{forget, name_exchange};
 use crate::opening::{Opening, open_rows};
 use crate::terms::RowTerm;
 use field_rows::{Entry, coefficient};
@@ -161,6 +162,7 @@ impl<F: OrderedField> Tableau<F> {
             other,
             &mut self.spare,
         );
+        forget(&mut self.users, other);
         Ok(())
     }
 }

@@ -29,8 +29,8 @@ loop-term-preserved g c =
     let value = g.F.OrderedField.value in
     record {
       is_row = c.in-Ok.ensures.row;
-      entries = more_entries value c.requires.0 c.args.terms.now c.loop-term.term-index _ c.as_slice.result.now c.in-Ok.more.items c.requires.1 c.loop-term-test.true (get_or_default c.args.terms.now c.loop-term.term-index _ _ c.loop-term-test.true)
-          (λ v. ap (λ r. coefficient value r v) c.as_slice.ensures.value ∙ c.loop-term.invariant.entries v) c.in-Ok.ensures.entries;
+      entries = more_entries value c.requires.0 c.args.terms.now c.loop-term.term-index _ c.loop-term.row.items c.in-Ok.more.items c.requires.1 c.loop-term-test.true (get_or_default c.args.terms.now c.loop-term.term-index _ _ c.loop-term-test.true)
+          c.loop-term.invariant.entries c.in-Ok.ensures.entries;
       fits = All-more (λ t. unsigned_abs t.coef ≤ g.F.OrderedField.LIMIT) c.args.terms.now c.loop-term.term-index _ c.loop-term-test.true c.loop-term.invariant.fits c.in-Ok.ensures.kept;
     }
 

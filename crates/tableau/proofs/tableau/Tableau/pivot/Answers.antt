@@ -6,11 +6,11 @@ use Rattle.field_rows.specs.Rows.{coefficient, AreQuotients}
 use Rattle.field_rows.proofs.ZeroLaws.{zero_fits}
 use Rattle.tableau.specs.Tables.{Table, variables, entry, Meets}
 use Rattle.tableau.specs.Exchange.{IsExchanged, ExchangeFits, IsStuckExchange}
-use Rattle.tableau.specs.Layout.{IsFollowed, IsFormed, IsStuckForming, AreBelow}
+use Rattle.tableau.specs.Layout.{IsLaidOut, IsFollowed, IsFormed, IsStuckForming, AreBelow}
 use Rattle.tableau.proofs.TableLaws.{variables-is, entry-is, entry-row}
 use Rattle.tableau.proofs.OperationLaws.{if_stuck, stuck_exchange}
 use Rattle.tableau.proofs.ExchangeLaws.{Exchangeable, exchangeable, meets_before, meets_after}
-use Rattle.tableau.proofs.LayoutLaws.{Put, solved_below, put_exchanges, put_fits, put_laid_out, names_grown}
+use Rattle.tableau.proofs.LayoutLaws.{Put, solved_below, put_exchanges, put_fits, put_laid_out, names_grown, forgotten}
 use Rattle.tableau.proofs.tableau.Tableau.pivot.Goals as goal
 
 pub formed-requires-clause-within : goal.formed-requires-clause-within
@@ -155,6 +155,18 @@ put_in_place-requires-clause-within g c =
     let ready : IsFormed limit value b o old.rows (get_or users o []) s fs = subst (λ l. IsFormed limit value b o l (get_or users o []) s fs) c.as_slice-rows.ensures.value (subst (λ l. IsFormed limit value b o c.as_slice-rows.result.now l s fs) users_are c.in-Ok.ensures.formed) in
     All-weaker (IsFollowed limit value b o old.rows (coefficient value s)) (λ f. f.variable < length old.rows) (λ f p. p.within) fs ready.each
 
+pub forget-requires : goal.forget-requires
+forget-requires g c =
+    let value = g.F.OrderedField.value in
+    let limit = g.F.OrderedField.LIMIT in
+    let b = c.args.basic in
+    let o = c.args.other in
+    let users = c.self.inside.users.items in
+    let old : Table _ = record { columns = c.self.inside.columns; basic = c.self.inside.basic.items; rows = c.self.inside.rows.items } in
+    let some : entry value old b o ≡ whole (pos 0) → ⊥ = subst (λ t. entry value t b o ≡ whole (pos 0) → ⊥) (sym c.self.view_is) c.requires in
+    let two : Exchangeable old b o = exchangeable value old b o c.self.invariant.table some in
+    subst (λ n. o < n) (sym (c.name_exchange.ensures.grown.count ∙ c.self.invariant.names.count)) two.other_in
+
 pub invariant_of-self-2 : goal.invariant_of-self-2
 invariant_of-self-2 g c =
     let value = g.F.OrderedField.value in
@@ -174,9 +186,11 @@ invariant_of-self-2 g c =
     let below : AreBelow (variables old) c.name_exchange.new.users.items = c.name_exchange.ensures.within (variables old) two.other_in in_table c.self.invariant.names.within in
     let new : Table _ = record { columns = c.self.inside.columns; basic = c.exchange_flags.new.flags.items; rows = c.put_in_place.new.rows.items } in
     let put : Put limit value b o old new users s fs = record { laid = c.self.invariant; some = some; formed = ready; columns = refl; flags = c.exchange_flags.ensures; rows = c.put_in_place.ensures } in
+    let laid : IsLaidOut value new c.name_exchange.new.users.items =
     put_laid_out limit value b o old new users s fs put c.name_exchange.new.users.items c.name_exchange.ensures.grown below
     (subst (λ l. All (λ e. Contains (get_or c.name_exchange.new.users.items e.variable []) o) l) c.as_slice-solved.ensures c.in_ok-name_exchange.ensures.own)
-    (subst (λ l. All (λ f. All (λ e. Contains (get_or c.name_exchange.new.users.items e.variable []) f.variable) l) fs) c.as_slice-solved.ensures (subst (λ l. All (λ f. All (λ e. Contains (get_or c.name_exchange.new.users.items e.variable []) f.variable) c.as_slice-solved.result.now) l) c.as_slice-followed.ensures.value c.in_ok-name_exchange.ensures.each))
+    (subst (λ l. All (λ f. All (λ e. Contains (get_or c.name_exchange.new.users.items e.variable []) f.variable) l) fs) c.as_slice-solved.ensures (subst (λ l. All (λ f. All (λ e. Contains (get_or c.name_exchange.new.users.items e.variable []) f.variable) c.as_slice-solved.result.now) l) c.as_slice-followed.ensures.value c.in_ok-name_exchange.ensures.each)) in
+    subst (λ us. IsLaidOut value new us) (sym c.forget.ensures) (forgotten value new c.name_exchange.new.users.items o (put_exchanges limit value b o old new users s fs put).entering laid)
 
 pub returns-clause-exchanged : goal.returns-clause-exchanged
 returns-clause-exchanged g c =
