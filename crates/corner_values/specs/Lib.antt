@@ -1,0 +1,4 @@
+pub mod Epsilon
+pub mod Scale
+pub mod Values
+pub mod Faults
