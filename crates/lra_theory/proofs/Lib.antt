@@ -1,0 +1,17 @@
+pub mod FormLaws
+pub mod GivenLaws
+pub mod LeafLaws
+pub mod Denominators
+pub mod Solutions
+pub mod FarkasLaws
+pub mod TellLaws
+pub mod CheckLaws
+pub mod TotalLaws
+pub mod AnswerLaws
+pub mod CutLaws
+pub mod TheoryLaws
+pub mod UnitLaws
+pub mod NewLaws
+pub mod ListLaws
+pub mod SumLaws
+pub mod ValueLaws

@@ -1,0 +1,10 @@
+pub mod Forms
+pub mod Literals
+pub mod States
+pub mod Setting
+pub mod Clashes
+pub mod Relations
+pub mod Calm
+pub mod Standings
+pub mod Soundness
+pub mod Totals
