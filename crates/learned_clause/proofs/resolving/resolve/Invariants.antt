@@ -1,0 +1,11 @@
+use Rattle.farkas_cert.specs.Trees.{tree_of}
+use Rattle.clause_form.specs.Derivations.{rows_of}
+use Rattle.learned_clause.specs.Trails.{entries, known_with}
+use Rattle.learned_clause.specs.Walks.{IsWalk}
+use Rattle.learned_clause.proofs.resolving.resolve.Given as goal
+
+abbrev pub invariant-loop-marks : goal.invariant-loop-marks
+invariant-loop-marks l = IsWalk (rows_of l.clauses) (known_with l.clauses.clauses l.lemmas) (entries l.trail) l.marks (tree_of l.tree) l.k
+
+abbrev pub decreases-loop-marks : goal.decreases-loop-marks
+decreases-loop-marks l = l.k

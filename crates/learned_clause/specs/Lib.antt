@@ -1,0 +1,5 @@
+pub mod Examples
+pub mod Learning
+pub mod LightTrees
+pub mod Trails
+pub mod Walks
