@@ -1,0 +1,9 @@
+pub mod LiteralLaws
+pub mod TableLaws
+pub mod StandingLaws
+pub mod TrailLaws
+pub mod JournalLaws
+pub mod CourseLaws
+pub mod ConflictLaws
+pub mod AnswerLaws
+pub mod ExampleLaws

@@ -1,0 +1,122 @@
+-- What holds of a search at each step: its moves are legal and lead to its trail, lemmas and theory.
+use Rattle.std.specs.Prelude.{◌≡◌, ℕ, ◌+◌, ◌-◌, ◌*◌, ◌≤◌, ◌<◌, ◌^◌, true, false, ◌⊎◌, List, map, take, length, Option, None, Some}
+use Rattle.whole.specs.Budget.{Counts, spent}
+use Rattle.farkas_cert.specs.Trees.{derived}
+use Rattle.farkas_cert.specs.declared.certificates.Lemma.{Lemma}
+use Rattle.farkas_cert.specs.declared.journals.Move.{Move}
+use Rattle.farkas_cert.specs.declared.journals.Move.TheVariants.{Decide, Propagate}
+use Rattle.farkas_cert.specs.declared.literals.Lit.{Lit}
+use Rattle.farkas_cert.specs.declared.trees.Part.{Part}
+use Rattle.clause_form.specs.declared.clauses.Clauses.{Clauses}
+use Rattle.clause_form.specs.Derivations.{Follow, HasAtom, IsContradiction, NamesOnce, SumsFit, rows_of}
+use Rattle.clause_form.specs.Journals.{Entry, IsSettled, Last, MayMove, Place, Reaches, cut, literal, literals, nothing}
+use Rattle.clause_form.specs.Theories.{HasSolution, Relations, Seen, works}
+use Rattle.clause_form.specs.WellFormed.{IsWellFormed}
+use Rattle.learned_clause.specs.Trails.{DecidedAt, IsTrail, known_with}
+use Rattle.clause_search.specs.declared.course.Course.{Course}
+use Rattle.clause_search.specs.declared.course.Phase.{Phase}
+use Rattle.clause_search.specs.declared.course.Phase.TheVariants.{Told, Checked, Cut}
+use Rattle.clause_search.specs.Answers.{AreLight, IsTally, starting_at}
+use Rattle.clause_search.specs.Tables.{View}
+
+abbrev pub clauses_of : List Lemma → List (List Lit)
+clauses_of lemmas = map (λ lemma. lemma.clause) lemmas
+
+abbrev pub place : {S : Type 0} → List Entry → List Lemma → S → Last → Place S
+place trail lemmas s last = record { trail = trail; lemmas = clauses_of lemmas; state = s; last = last }
+
+-- where a decision stands, each lemma of now is neither false nor unit on the trail before it
+abbrev pub AreOpenAtDecisions : List (List Lit) → List Entry → Type 0
+AreOpenAtDecisions lemmas trail = (k : ℕ) → DecidedAt trail k → IsSettled lemmas (literals (take k trail))
+
+abbrev pub move_of : Lit → Option ℕ → Move
+move_of l None = Decide l
+move_of l (Some n) = Propagate l n
+
+-- what a step leaves to do: it falls with each step, since a literal is charged, a check follows a literal, and a cut shortens
+-- the trail
+abbrev pub weight : Phase → ℕ
+weight Told = 1
+weight Checked = 0
+weight Cut = 0
+
+abbrev pub work_at_clash : Course → Counts → ℕ
+work_at_clash course n = 2 * (2 * (n.limit - spent n) + length course.trail.entries)
+
+abbrev pub work_left : Course → Counts → ℕ
+work_left course n = work_at_clash course n + weight course.phase
+
+module _ {S : Type 0} (R : Relations S) (c : Clauses) (s : S) where
+  pub record IsUnderway (trail : List Entry) (lemmas : List Lemma) (moves : List Move) (last : Last) (seen : Seen S) (n : Counts) : Type 0 where
+    pub formed : IsWellFormed c
+    pub legal : Reaches (starting_at s R) c moves (place trail lemmas seen.state last)
+    pub told : seen.told ≡ literals trail
+    pub rows : seen.rows ≡ rows_of c
+    pub at_work : seen.rest ≡ works
+    pub once : NamesOnce (length c.atoms) (literals trail)
+    pub stands : IsTrail (length c.atoms) (known_with c.clauses lemmas) trail
+    pub founded : AreOpenAtDecisions (clauses_of lemmas) trail
+    pub follow : Follow (rows_of c) c.clauses (map derived lemmas)
+    pub light : AreLight (rows_of c) lemmas
+    pub tally : IsTally moves n
+    pub counted : n.conflicts ≡ length lemmas
+    pub room : length lemmas + length trail ≤ spent n
+    pub limit : n.limit ≤ 2 ^ 31
+
+  -- a literal was told and no check followed, or nothing happened yet; a check answered Fine; or the trail was cut
+  abbrev pub IsInPhase : List Entry → List Lemma → Last → Seen S → Phase → Type 0
+  IsInPhase trail lemmas last seen Told =
+      (seen.owes ≡ false) × (R.contradicts seen.state → ⊥) × ((last ≡ literal) ⊎ ((last ≡ nothing) × (R.violated seen.state → ⊥)))
+  IsInPhase trail lemmas last seen Checked =
+      (seen.owes ≡ false) × (R.contradicts seen.state → ⊥) × (R.violated seen.state → ⊥) × (seen.fine ≡ true) × HasSolution seen.rows seen.told
+  IsInPhase trail lemmas last seen Cut =
+      (seen.owes ≡ false) × (last ≡ cut) × (IsSettled (known_with c.clauses lemmas) (literals trail) → ⊥)
+
+  pub record IsStage (view : View) (lemmas : List Lemma) (moves : List Move) (phase : Phase) (seen : Seen S) (n : Counts) : Type 0 where
+    pub last : Last
+    pub atoms : view.atoms ≡ length c.atoms
+    pub underway : IsUnderway view.entries lemmas moves last seen n
+    pub in_phase : IsInPhase view.entries lemmas last seen phase
+
+  -- the rows of the trail contradict
+  pub record IsClash (view : View) (lemmas : List Lemma) (moves : List Move) (seen : Seen S) (n : Counts) (parts : List Part) : Type 0 where
+    pub last : Last
+    pub atoms : view.atoms ≡ length c.atoms
+    pub underway : IsUnderway view.entries lemmas moves last seen n
+    pub few : length parts ≤ 2049
+    pub contradiction : IsContradiction (rows_of c) (literals view.entries) parts
+    pub fits : SumsFit (rows_of c) parts
+
+  -- the literal may be put on the trail
+  pub record IsLegal (view : View) (lemmas : List Lemma) (moves : List Move) (seen : Seen S) (n : Counts) (l : Lit) (by : Option ℕ) : Type 0 where
+    pub last : Last
+    pub atoms : view.atoms ≡ length c.atoms
+    pub underway : IsUnderway view.entries lemmas moves last seen n
+    pub paid : seen.owes ≡ false
+    pub may : MayMove (starting_at s R) c (place view.entries lemmas seen.state last) (move_of l by)
+
+  -- the search stands at this course
+  abbrev pub IsAt : Course → Seen S → Counts → Type 0
+  IsAt course seen n = IsStage course.trail course.lemmas course.journal.moves course.phase seen n
+
+  abbrev pub IsAtClash : Course → Seen S → Counts → List Part → Type 0
+  IsAtClash course seen n parts = IsClash course.trail course.lemmas course.journal.moves seen n parts
+
+  abbrev pub MayAssume : Course → Seen S → Counts → Lit → Option ℕ → Type 0
+  MayAssume course seen n l by = IsLegal course.trail course.lemmas course.journal.moves seen n l by
+
+-- what the theory and the trail need before the literal is told
+pub record MayBeTold {S : Type 0} (view : View) (seen : Seen S) (l : Lit) : Type 0 where
+  pub in_range : l.atom < view.atoms
+  pub free : HasAtom l.atom (literals view.entries) → ⊥
+  pub told : seen.told ≡ literals view.entries
+  pub atoms : length seen.rows.atoms ≡ view.atoms
+  pub room : length view.entries < 2 ^ 32 - 1
+  pub paid : seen.owes ≡ false
+  pub at_work : seen.rest ≡ works
+
+-- a check is due
+pub record IsDue {S : Type 0} (phase : Phase) (seen : Seen S) : Type 0 where
+  pub told : phase ≡ Told
+  pub paid : seen.owes ≡ false
+  pub at_work : seen.rest ≡ works

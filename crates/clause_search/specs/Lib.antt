@@ -1,0 +1,7 @@
+pub mod Answers
+pub mod Courses
+pub mod Opened
+pub mod Standings
+pub mod Steps
+pub mod Tables
+pub mod Examples

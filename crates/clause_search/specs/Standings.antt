@@ -1,0 +1,67 @@
+-- How a clause stands to the literals of a trail, and what a look at all clauses shows.
+use Rattle.std.specs.Prelude.{◌≡◌, ℕ, List, Option, None, Some, slice_get}
+use Rattle.farkas_cert.specs.declared.literals.Lit.{Lit}
+use Rattle.clause_form.specs.Derivations.{Has, HasAtom, IsFalseOn}
+use Rattle.clause_form.specs.Journals.{IsReason, IsSettled, OthersFalse}
+use Rattle.clause_search.specs.declared.standing.Standing.{Standing}
+use Rattle.clause_search.specs.declared.standing.Standing.TheVariants.{Satisfied, Open, Unit as Single, False}
+use Rattle.clause_search.specs.declared.survey.Survey.{Survey}
+use Rattle.clause_search.specs.declared.survey.Survey.TheVariants as survey
+
+-- a literal of another kind than l, whose atom is off the trail
+pub record HasOther (lits : List Lit) (l : Lit) (clause : List Lit) : Type 0 where
+  pub other : Lit
+  pub has : Has other clause
+  pub off : HasAtom other.atom lits → ⊥
+  pub differs : other ≡ l → ⊥
+
+-- some literal is true; or no literal seen is, and several are off the trail, or one, or none
+abbrev pub StandsAs : List Lit → List Lit → Standing → Type 0
+StandsAs lits clause Satisfied = (l : Lit) × Has l clause × Has l lits
+StandsAs lits clause (Open l) = Has l clause × (HasAtom l.atom lits → ⊥) × HasOther lits l clause
+StandsAs lits clause (Single l) = Has l clause × (HasAtom l.atom lits → ⊥) × OthersFalse lits l clause
+StandsAs lits clause False = IsFalseOn lits clause
+
+-- so stands the clause with this number
+pub record StandsAt (known : List (List Lit)) (lits : List Lit) (n : ℕ) (standing : Standing) : Type 0 where
+  pub clause : List Lit
+  pub is : slice_get known n ≡ Some clause
+  pub stands : StandsAs lits clause standing
+
+abbrev pub IfStandsAt : List (List Lit) → List Lit → ℕ → Option Standing → Type 0
+IfStandsAt known lits n None = Unit {0}
+IfStandsAt known lits n (Some standing) = StandsAt known lits n standing
+
+-- a literal of a known clause, whose atom is off the trail
+pub record IsWanted (known : List (List Lit)) (lits : List Lit) (l : Lit) : Type 0 where
+  pub number : ℕ
+  pub clause : List Lit
+  pub is : slice_get known number ≡ Some clause
+  pub has : Has l clause
+  pub off : HasAtom l.atom lits → ⊥
+
+abbrev pub IfWanted : List (List Lit) → List Lit → Option Lit → Type 0
+IfWanted known lits None = Unit {0}
+IfWanted known lits (Some l) = IsWanted known lits l
+
+-- the first wish stays
+abbrev pub earlier_of : Option Lit → Lit → Option Lit
+earlier_of None l = Some l
+earlier_of (Some first) l = Some first
+
+-- the clause with this number is false
+pub record IsFalseAt (known : List (List Lit)) (lits : List Lit) (n : ℕ) : Type 0 where
+  pub clause : List Lit
+  pub is : slice_get known n ≡ Some clause
+  pub false_here : IsFalseOn lits clause
+
+-- the literal follows from the clause with this number
+pub record Follows (known : List (List Lit)) (lits : List Lit) (l : Lit) (n : ℕ) : Type 0 where
+  pub off : HasAtom l.atom lits → ⊥
+  pub reason : IsReason known lits l n
+
+-- a false clause, or one that gives a literal, or neither
+abbrev pub Surveys : List (List Lit) → List Lit → Survey → Type 0
+Surveys known lits (survey.False n) = IsFalseAt known lits n
+Surveys known lits (survey.Unit n l) = Follows known lits l n
+Surveys known lits (survey.Settled wish) = IsSettled known lits × IfWanted known lits wish

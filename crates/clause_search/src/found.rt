@@ -1,0 +1,18 @@
+// What a search finds.
+use farkas_cert::{Cert, Journal};
+use sqlite_items::Items;
+use whole::Stuck;
+
+/// What a search over clauses found, with the moves that it made where it proves nothing by itself.
+#[derive(Debug, Drop)]
+pub enum Found {
+    /// A truth of each atom with which each clause has a true literal, and the theory has a solution.
+    Total(Items<bool>, Journal),
+    /// The clauses have no model, as this certificate proves.
+    Closed(Cert),
+    /// The budget is spent, and a further move may be made.
+    Spent(Journal),
+    /// An operation of the theory passed.
+    Stuck(Stuck, Journal),
+    NoMemory,
+}

@@ -1,0 +1,24 @@
+//! A search over clauses for a model that a theory grants, or for a proof that there is none.
+//!
+//! `search` is the conflict-driven search of Marques-Silva and Sakallah (GRASP, 1996) over a theory
+//! that hears literals: it propagates, decides, and learns a clause from each conflict. What it
+//! leaves behind, a certificate or a journal, says why its answer holds.
+#![tactic(auto)]
+
+mod agenda;
+mod asking;
+mod conflict;
+mod course;
+mod found;
+#[cfg(test)]
+mod names;
+mod searching;
+mod standing;
+mod step;
+mod survey;
+#[cfg(test)]
+mod tests;
+mod trail;
+
+pub use found::Found;
+pub use searching::search;

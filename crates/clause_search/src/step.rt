@@ -1,0 +1,199 @@
+// One step of the search: a conflict, a check, a propagation or a decision, whichever is due first.
+ghost use Rattle.std.specs.Prelude.{◌≡◌, ℕ, ◌≤◌};
+ghost use Rattle.whole.specs.Budget.{counts};
+ghost use Rattle.clause_search.specs.Courses.{IsAt, work_left};
+ghost use Rattle.clause_search.specs.Steps.{Asks, Chooses, IfFree, IsAdvancing, IsDeciding, IsPropagating, LeavesLess, Steps};
+
+use crate::agenda::Reason;
+use crate::asking::{assume, check};
+use crate::conflict::conflict;
+use crate::course::{Course, Phase};
+use crate::survey::{Survey, look_over};
+use crate::trail::Trail;
+use clause_form::{Clauses, Heard, Theory};
+use farkas_cert::Lit;
+use learned_clause::Start;
+use std::alloc::Global;
+use whole::{Budget, NoMemory, Stuck};
+
+/// What a step came to.
+#[derive(Debug, Drop)]
+pub(crate) enum Step {
+    /// The search goes on.
+    GoesOn,
+    /// All atoms are on the trail, each clause is true, and the last check answered Fine.
+    Total,
+    /// The empty clause was learned.
+    Closed,
+    /// The budget is spent.
+    Spent,
+    /// An operation of the theory passed.
+    Stuck(Stuck),
+    NoMemory,
+}
+
+/// Makes one step. A false clause comes first, then the check that follows a literal, then a clause
+/// that gives a literal, and a decision only where there is none.
+pub(crate) fn take_step<T: Theory>(
+    alloc: Global,
+    clauses: &Clauses,
+    course: &mut Course,
+    theory: &mut T,
+    budget: &mut Budget,
+) -> Step
+    requires { (s : T.State) × IsAt T.relations clauses.now s course.old (T.seen theory.old) (counts budget.old) }
+    ensures steps { (s : T.State) → IsAt T.relations clauses.now s course.old (T.seen theory.old) (counts budget.old) → Steps T.relations clauses.now s (work_left course.old (counts budget.old)) course.new (T.seen theory.new) (counts budget.new) result }
+    ensures rows { (T.seen theory.new).rows ≡ (T.seen theory.old).rows }
+    ensures limit { budget.new.limit ≡ budget.old.limit }
+{
+    match course
+        .agenda
+        .next_false(clauses, course.lemmas.as_slice(), &course.trail)
+    {
+        Ok(Some(number)) => {
+            conflict(
+                alloc,
+                clauses,
+                course,
+                theory,
+                budget,
+                Start::Clause(number),
+            )
+        }
+        Ok(None) => match course.phase {
+            Phase::Told => {
+                let heard = check(course, theory, budget);
+                after(alloc, clauses, course, theory, budget, heard)
+            }
+            _ => advance(alloc, clauses, course, theory, budget),
+        },
+        Err(NoMemory) => Step::NoMemory,
+    }
+}
+
+// Goes on after the theory was asked.
+fn after<T: Theory>(
+    alloc: Global,
+    clauses: &Clauses,
+    course: &mut Course,
+    theory: &mut T,
+    budget: &mut Budget,
+    heard: Heard,
+) -> Step
+    requires { (s : T.State) × Asks T.relations clauses.now s course.old (T.seen theory.old) (counts budget.old) heard }
+    ensures steps { (s : T.State) (work : ℕ) → Asks T.relations clauses.now s course.old (T.seen theory.old) (counts budget.old) heard → LeavesLess work course.old (counts budget.old) heard → Steps T.relations clauses.now s work course.new (T.seen theory.new) (counts budget.new) result }
+    ensures rows { (T.seen theory.new).rows ≡ (T.seen theory.old).rows }
+    ensures limit { budget.new.limit ≡ budget.old.limit }
+{
+    match heard {
+        Heard::Fine => Step::GoesOn,
+        Heard::Clash(parts) => conflict(
+            alloc,
+            clauses,
+            course,
+            theory,
+            budget,
+            Start::Clash(parts),
+        ),
+        Heard::Spent => Step::Spent,
+        Heard::Stuck(stuck) => Step::Stuck(stuck),
+        Heard::NoMemory => Step::NoMemory,
+    }
+}
+
+// Propagates, or decides where all is propagated.
+fn advance<T: Theory>(
+    alloc: Global,
+    clauses: &Clauses,
+    course: &mut Course,
+    theory: &mut T,
+    budget: &mut Budget,
+) -> Step
+    requires { (s : T.State) × IsAdvancing T.relations clauses.now s course.old (T.seen theory.old) (counts budget.old) }
+    ensures steps { (s : T.State) → IsAdvancing T.relations clauses.now s course.old (T.seen theory.old) (counts budget.old) → Steps T.relations clauses.now s (work_left course.old (counts budget.old)) course.new (T.seen theory.new) (counts budget.new) result }
+    ensures rows { (T.seen theory.new).rows ≡ (T.seen theory.old).rows }
+    ensures limit { budget.new.limit ≡ budget.old.limit }
+{
+    if let Some(reason) = course
+        .agenda
+        .next_unit(clauses, course.lemmas.as_slice(), &course.trail)
+    {
+        return propagate(alloc, clauses, course, theory, budget, reason);
+    }
+    match look_over(clauses, course.lemmas.as_slice(), &course.trail) {
+        Survey::False(number) => {
+            conflict(
+                alloc,
+                clauses,
+                course,
+                theory,
+                budget,
+                Start::Clause(number),
+            )
+        }
+        Survey::Unit(by, lit) => {
+            propagate(alloc, clauses, course, theory, budget, Reason { lit, by })
+        }
+        Survey::Settled(wish) => decide(alloc, clauses, course, theory, budget, wish),
+    }
+}
+
+/// Puts a literal on the trail that follows from a clause.
+fn propagate<T: Theory>(
+    alloc: Global,
+    clauses: &Clauses,
+    course: &mut Course,
+    theory: &mut T,
+    budget: &mut Budget,
+    reason: Reason,
+) -> Step
+    requires { (s : T.State) × IsPropagating T.relations clauses.now s course.old (T.seen theory.old) (counts budget.old) reason.lit reason.by }
+    ensures steps { (s : T.State) → IsPropagating T.relations clauses.now s course.old (T.seen theory.old) (counts budget.old) reason.lit reason.by → Steps T.relations clauses.now s (work_left course.old (counts budget.old)) course.new (T.seen theory.new) (counts budget.new) result }
+    ensures rows { (T.seen theory.new).rows ≡ (T.seen theory.old).rows }
+    ensures limit { budget.new.limit ≡ budget.old.limit }
+{
+    let heard = assume(course, theory, budget, reason.lit, Some(reason.by));
+    after(alloc, clauses, course, theory, budget, heard)
+}
+
+/// Assumes a literal, or finds that each atom is on the trail.
+fn decide<T: Theory>(
+    alloc: Global,
+    clauses: &Clauses,
+    course: &mut Course,
+    theory: &mut T,
+    budget: &mut Budget,
+    wish: Option<Lit>,
+) -> Step
+    requires { (s : T.State) × IsDeciding T.relations clauses.now s course.old (T.seen theory.old) (counts budget.old) wish }
+    ensures steps { (s : T.State) → IsDeciding T.relations clauses.now s course.old (T.seen theory.old) (counts budget.old) wish → Steps T.relations clauses.now s (work_left course.old (counts budget.old)) course.new (T.seen theory.new) (counts budget.new) result }
+    ensures rows { (T.seen theory.new).rows ≡ (T.seen theory.old).rows }
+    ensures limit { budget.new.limit ≡ budget.old.limit }
+{
+    match choose(&course.trail, wish) {
+        Some(lit) => {
+            let heard = assume(course, theory, budget, lit, None);
+            after(alloc, clauses, course, theory, budget, heard)
+        }
+        None => Step::Total,
+    }
+}
+
+// The literal to decide: the one that is wished for, and where each clause is true already the least
+// atom off the trail, negative.
+fn choose(trail: &Trail, wish: Option<Lit>) -> Option<Lit>
+    requires few { trail.now.atoms ≤ 4096 }
+    requires wish { IfFree trail.now wish }
+    ensures { Chooses trail.now result }
+{
+    match wish {
+        Some(lit) => Some(lit),
+        None => match trail.first_free() {
+            Some(atom) => Some(Lit {
+                atom,
+                positive: false,
+            }),
+            None => None,
+        },
+    }
+}
