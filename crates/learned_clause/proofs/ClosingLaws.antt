@@ -14,25 +14,30 @@ use Rattle.learned_clause.proofs.PlaceLaws.{place-Has, front-Has, Has-place, Has
 -- ---- the start
 
 -- the literals of a false clause, each of whose atoms is on
-pub false_path : (front path : List Lit) (on : List Bool) (ls : List Lit) → ((l : Lit) → Has l front → is_on on l.atom ≡ true → Has l path) → ((l : Lit) → Has l ls → is_on on l.atom ≡ true) → IsFalseOn front ls → IsFalseOn path ls
+pub false_path : (front path : List Lit) (on : List Bool) (ls : List Lit) → ((l : Lit) → Has l front → is_on on l.atom ≡ true → Has l path)
+    → ((l : Lit) → Has l ls → is_on on l.atom ≡ true) → IsFalseOn front ls → IsFalseOn path ls
 false_path front path on [] has all false_here = tt
 false_path front path on (x ∷ xs) has all false_here =
     (has (negation x) false_here.0 (all x (inl refl)), false_path front path on xs has (λ m h. all m (inr h)) false_here.1)
 
-pub closes_clause : (c : Rows) (known : List (List Lit)) (n : ℕ) (on : List Bool) (front lits : List Lit) → slice_get known n ≡ Some lits → IsFalseOn front lits → ((l : Lit) → Has l lits → is_on on l.atom ≡ true) → ClosesAll c known (clause n) on front
+pub closes_clause : (c : Rows) (known : List (List Lit)) (n : ℕ) (on : List Bool) (front lits : List Lit) → slice_get known n ≡ Some lits
+    → IsFalseOn front lits → ((l : Lit) → Has l lits → is_on on l.atom ≡ true) → ClosesAll c known (clause n) on front
 closes_clause c known n on front lits g false_here all path has inside = (lits, g, false_path front path on lits has all false_here)
 
-parts_path : (c : Rows) (front path : List Lit) (on : List Bool) (ps : List Part) → ((l : Lit) → Has l front → is_on on l.atom ≡ true → Has l path) → ((l : Lit) → Has l (map (λ p. p.lit) ps) → is_on on l.atom ≡ true) → ArePartsOf c front ps → ArePartsOf c path ps
+parts_path : (c : Rows) (front path : List Lit) (on : List Bool) (ps : List Part) → ((l : Lit) → Has l front → is_on on l.atom ≡ true → Has l path)
+    → ((l : Lit) → Has l (map (λ p. p.lit) ps) → is_on on l.atom ≡ true) → ArePartsOf c front ps → ArePartsOf c path ps
 parts_path c front path on [] has all parts = tt
 parts_path c front path on (p ∷ ps) has all parts =
     (parts.0, has p.lit parts.1 (all p.lit (inl refl)), parts.2, parts_path c front path on ps has (λ m h. all m (inr h)) parts.3)
 
-pub closes_sums : (c : Rows) (known : List (List Lit)) (on : List Bool) (front : List Lit) (parts : List Part) → IsContradiction c front parts → ((l : Lit) → Has l (map (λ p. p.lit) parts) → is_on on l.atom ≡ true) → ClosesAll c known (farkas parts) on front
+pub closes_sums : (c : Rows) (known : List (List Lit)) (on : List Bool) (front : List Lit) (parts : List Part) → IsContradiction c front parts
+    → ((l : Lit) → Has l (map (λ p. p.lit) parts) → is_on on l.atom ≡ true) → ClosesAll c known (farkas parts) on front
 closes_sums c known on front parts against all path has inside =
     record { rows = parts_path c front path on parts has all against.rows; columns = against.columns; bound = against.bound }
 
 -- what is on in the whole trail is on in its front
-pub closes_front : (c : Rows) (known : List (List Lit)) (tree : Tree) (on : List Bool) (T : List Entry) (many : ℕ) → NoneOn T on many (length T) → ClosesAll c known tree on (literals T) → ClosesAll c known tree on (literals (take many T))
+pub closes_front : (c : Rows) (known : List (List Lit)) (tree : Tree) (on : List Bool) (T : List Entry) (many : ℕ) → NoneOn T on many (length T)
+    → ClosesAll c known tree on (literals T) → ClosesAll c known tree on (literals (take many T))
 closes_front c known tree on T many none closes path has inside = closes path (λ l h is. here l is (place-Has l T h)) (λ l h. there l (front-Has l many T (inside l h)))
   where
     here : (l : Lit) → is_on on l.atom ≡ true → ((k : ℕ) × (e : Entry) × (slice_get T k ≡ Some e) × (e.lit ≡ l)) → Has l path
@@ -47,12 +52,14 @@ closes_front c known tree on T many none closes path has inside = closes path (�
 -- ---- a step
 
 -- the last atom isn't on
-pub closes_skip : (c : Rows) (known : List (List Lit)) (tree : Tree) (on : List Bool) (front : List Lit) (l : Lit) → is_on on l.atom ≡ false → ClosesAll c known tree on (front ++ l ∷ []) → ClosesAll c known tree on front
+pub closes_skip : (c : Rows) (known : List (List Lit)) (tree : Tree) (on : List Bool) (front : List Lit) (l : Lit) → is_on on l.atom ≡ false
+    → ClosesAll c known tree on (front ++ l ∷ []) → ClosesAll c known tree on front
 closes_skip c known tree on front l off closes path has inside =
     closes path (λ m h is. elim (Has-push m l front h) [ inl t ↦ has m t is | inr e ↦ absurd (true≢false (sym is ∙ ap (λ (y : Lit). is_on on y.atom) e ∙ off)) ]) (λ m h. Has-front m front (l ∷ []) (inside m h))
 
 -- where the literal is false, so is its clause
-reason_path : (front path : List Lit) (on : List Bool) (l : Lit) (ls : List Lit) → ((m : Lit) → Has m front → is_on on m.atom ≡ true → Has m path) → ((m : Lit) → Has m ls → is_on on m.atom ≡ true) → OthersFalse front l ls → IsFalseOn (negation l ∷ path) ls
+reason_path : (front path : List Lit) (on : List Bool) (l : Lit) (ls : List Lit) → ((m : Lit) → Has m front → is_on on m.atom ≡ true → Has m path)
+    → ((m : Lit) → Has m ls → is_on on m.atom ≡ true) → OthersFalse front l ls → IsFalseOn (negation l ∷ path) ls
 reason_path front path on l [] has all others = tt
 reason_path front path on l (x ∷ xs) has all others =
     (elim others.0 [ inl e ↦ inl (ap negation e) | inr h ↦ inr (has (negation x) h (all x (inl refl))) ], reason_path front path on l xs has (λ m h. all m (inr h)) others.1)

@@ -8,15 +8,18 @@ use Rattle.farkas_cert.specs.declared.literals.Lit.{Lit}
 use Rattle.clause_form.specs.Derivations.{Closes, Has, HasAtom, Rows}
 use Rattle.clause_form.specs.Journals.{Entry, IsOpenClause, OthersFalse, literals}
 use Rattle.learned_clause.specs.Learning.{CutsTo, IsLearnedFrom}
+use Rattle.learned_clause.specs.Resolutions.{AreFalseAt, AtomAt, HasOneFrom, IsLearnedBy, IsLearnedClause, KeepsOthers}
 use Rattle.learned_clause.specs.Trails.{DecidedAt, IsTrail}
-use Rattle.learned_clause.specs.Walks.{AreApart, IsFirstDecision, IsLastOn, IsLeastCut, IsWalk, OnAt, held, is_on}
+use Rattle.learned_clause.specs.Walks.{AreApart, IsFirstDecision, IsLastOn, IsLeastCut, IsResolved, IsWalk, OnAt, held, is_on}
+use Rattle.learned_clause.specs.declared.learning.Start.{Start}
 use Rattle.learned_clause.specs.declared.marks.Marks.{Marks}
-use Rattle.learned_clause.proofs.MemberLaws.{Has-held, Has-negation, HasAtom-Has, false-at, false-negations, held-Has, map-negation-negation, once-held, once-negations, others-at, others-negations}
+use Rattle.learned_clause.proofs.MemberLaws.{Has-held, Has-negation, HasAtom-Has, false-at, false-negations, held-Has, map-negation-negation, negation-Has, once-held, once-negations, others-at, others-negations}
 use Rattle.learned_clause.proofs.PlaceLaws.{Has-front_place, Has-place, front-Has, front_once, off_front, place_within, trail_apart}
 
 -- ---- the cut
 
-pub least_cut_law : (T : List Entry) (on : List Bool) (decision from keep : ℕ) → DecidedAt T decision → IsLastOn T on decision from → IsFirstDecision T from decision keep → IsLeastCut T on decision keep
+pub least_cut_law : (T : List Entry) (on : List Bool) (decision from keep : ℕ) → DecidedAt T decision → IsLastOn T on decision from
+    → IsFirstDecision T from decision keep → IsLeastCut T on decision keep
 least_cut_law T on decision from keep decided last first = record {
   within = first.within;
   decided = elim first.at [ inl e ↦ subst (DecidedAt T) (sym e) decided | inr d ↦ d ];
@@ -48,7 +51,8 @@ module _ (c : Rows) (known : List (List Lit)) (T : List Entry) (m : Marks) (tree
   apart = trail_apart (length c.atoms) known T trail
 
   -- a literal of the clause by its place
-  in_place : (x : Lit) → Has x (held m.on (literals (take m.lowest T))) → (k : ℕ) × (e : Entry) × (k < m.lowest) × (slice_get T k ≡ Some e) × (e.lit ≡ x) × (is_on m.on e.lit.atom ≡ true)
+  in_place : (x : Lit) → Has x (held m.on (literals (take m.lowest T)))
+      → (k : ℕ) × (e : Entry) × (k < m.lowest) × (slice_get T k ≡ Some e) × (e.lit ≡ x) × (is_on m.on e.lit.atom ≡ true)
   in_place x h =
       let r = held-Has m.on x (literals (take m.lowest T)) h in
       let p = front-Has x m.lowest T r.0 in
@@ -68,7 +72,8 @@ module _ (c : Rows) (known : List (List Lit)) (T : List Entry) (m : Marks) (tree
     | inr r ↦ at r
   ]
     where
-      at : ((atom : ℕ) × (is_on m.on atom ≡ true) × (slice_index m.ranks atom ≡ m.lowest)) → (k : ℕ) × (e : Entry) × (m.lowest ≡ k + 1) × (slice_get T k ≡ Some e) × (is_on m.on e.lit.atom ≡ true)
+      at : ((atom : ℕ) × (is_on m.on atom ≡ true) × (slice_index m.ranks atom ≡ m.lowest))
+          → (k : ℕ) × (e : Entry) × (m.lowest ≡ k + 1) × (slice_get T k ≡ Some e) × (is_on m.on e.lit.atom ≡ true)
       at r =
           let some : m.lowest ≡ (m.lowest - 1) + 1 = omega (arith, walk.lowest.level) in
           let p = walk.ranked.only r.0 (m.lowest - 1) (r.2 ∙ some) in
@@ -99,7 +104,8 @@ module _ (c : Rows) (known : List (List Lit)) (T : List Entry) (m : Marks) (tree
                   absurd (differs (omega arith))
             ]
 
-        by : ((k : ℕ) × (e : Entry) × (k < m.lowest) × (slice_get T k ≡ Some e) × (e.lit ≡ x) × (is_on m.on e.lit.atom ≡ true)) → (x ≡ late.lit) ⊎ Has x (literals (take keep T))
+        by : ((k : ℕ) × (e : Entry) × (k < m.lowest) × (slice_get T k ≡ Some e) × (e.lit ≡ x) × (is_on m.on e.lit.atom ≡ true))
+            → (x ≡ late.lit) ⊎ Has x (literals (take keep T))
         by r = elim (cases_eq r.0 low) [
           | inl same ↦
               let at_low : slice_get T low ≡ Some r.1 = subst (λ (i : ℕ). slice_get T i ≡ Some r.1) same r.3 in
@@ -156,6 +162,43 @@ module _ (c : Rows) (known : List (List Lit)) (T : List Entry) (m : Marks) (tree
       open_before = opens;
     }
 
+    -- ---- the cut keeps the others, and no earlier one does
+
+    keeps : KeepsOthers T learned (negation late.lit) keep
+    keeps = record { decided = cut.decided; others = λ l h differs. kept l (negation-Has l (held m.on (literals (take m.lowest T))) h) differs }
+      where
+        kept : (l : Lit) → ((x : Lit) × Has x (held m.on (literals (take m.lowest T))) × (l ≡ negation x)) → (l ≡ negation late.lit → ⊥)
+            → HasAtom l.atom (literals (take keep T))
+        kept l (x, h, s) differs = elim (other x h) [
+          | inl same ↦ absurd (differs (s ∙ ap negation same))
+          | inr before ↦ subst (λ (a : ℕ). HasAtom a (literals (take keep T))) (ap (λ (y : Lit). y.atom) (sym s)) (HasAtom-Has x (literals (take keep T)) before)
+        ]
+
+    least : (k : ℕ) → k < keep → KeepsOthers T learned (negation late.lit) k → ⊥
+    least k less kept = by (cut.earlier k less kept.decided)
+      where
+        by : ((j : ℕ) × (k ≤ j) × (j < keep) × OnAt T m.on j) → ⊥
+        by (j, from, to, (e, g, is)) = off_front (length c.atoms) T apart k j e g from (kept.others (negation e.lit) (named j e (omega (arith, above, cut.within)) g is) differs)
+          where
+            differs : negation e.lit ≡ negation late.lit → ⊥
+            differs s =
+                let same : j ≡ low = apart.apart j low e late g late_at (ap (λ (x : Lit). x.atom) s) in
+                absurd (omega (arith, above, cut.within))
+
+    one : HasOneFrom T decision learned (negation late.lit)
+    one = record { has = late_in; stands = (low, above, (late, late_at, refl)); only = λ l k h from at. only l k from at (negation-Has l (held m.on (literals (take m.lowest T))) h) }
+      where
+        only : (l : Lit) (k : ℕ) → decision ≤ k → AtomAt T k l.atom → ((x : Lit) × Has x (held m.on (literals (take m.lowest T))) × (l ≡ negation x))
+            → l ≡ negation late.lit
+        only l k from (d, gd, t) (x, h, s) =
+            let p = in_place x h in
+            let same : k ≡ p.0 = apart.apart k p.0 d p.1 gd p.3 (t ∙ ap (λ (y : Lit). y.atom) s ∙ ap (λ (y : Lit). y.atom) (sym p.4)) in
+            let rank : slice_index m.ranks p.1.lit.atom ≡ p.0 + 1 = walk.ranked.each p.0 p.1 (place_within T p.0 p.1 p.3) p.3 in
+            let least : m.lowest ≤ slice_index m.ranks p.1.lit.atom = walk.lowest.least p.1.lit.atom p.5 (omega arith) in
+            let at_low : p.0 ≡ low = omega (arith, p.2) in
+            let there : slice_get T low ≡ Some p.1 = subst (λ (i : ℕ). slice_get T i ≡ Some p.1) at_low p.3 in
+            s ∙ ap negation (sym p.4) ∙ ap (λ (e : Entry). negation e.lit) (same_Some p.1 late (sym there ∙ late_at))
+
   ended : (keep : ℕ) → ((k : ℕ) → m.level ≡ k + 1 → DecidedAt T k → IsLeastCut T m.on k keep) → (learned ≡ []) ⊎ CutsTo T learned keep
   ended keep cut = elim walk.level [
     | inl none ↦ inl (ap (λ (n : ℕ). map negation (held m.on (literals (take n T)))) none.1)
@@ -164,7 +207,8 @@ module _ (c : Rows) (known : List (List Lit)) (T : List Entry) (m : Marks) (tree
         inr (cuts r.0 keep r.1 (cut r.0 r.1 r.2) late.0 late.1 late.2 late.3 late.4)
   ]
 
-  pub learned_law : (clause : List Lit) (keep : ℕ) → clause ≡ map negation (held m.on (literals (take m.lowest T))) → ((k : ℕ) → m.level ≡ k + 1 → DecidedAt T k → IsLeastCut T m.on k keep) → IsLearnedFrom c known T clause tree keep
+  pub learned_law : (clause : List Lit) (keep : ℕ) → clause ≡ map negation (held m.on (literals (take m.lowest T)))
+      → ((k : ℕ) → m.level ≡ k + 1 → DecidedAt T k → IsLeastCut T m.on k keep) → IsLearnedFrom c known T clause tree keep
   learned_law clause keep e cut = subst (λ (ls : List Lit). IsLearnedFrom c known T ls tree keep) (sym e) (record {
     once = once-negations (length c.atoms) (held m.on (literals (take m.lowest T))) (once-held (length c.atoms) m.on (literals (take m.lowest T)) (front_once (length c.atoms) known T trail m.lowest walk.within));
     false_here = false-negations (literals T) (held m.on (literals (take m.lowest T))) inside;
@@ -172,3 +216,31 @@ module _ (c : Rows) (known : List (List Lit)) (T : List Entry) (m : Marks) (tree
     light = record { shallow = omega (arith, walk.shallow); leaves = walk.leaves };
     cut = ended keep cut;
   })
+
+  -- and it is the first unique implication point
+  point : (start : List Lit) (keep : ℕ) → ((k : ℕ) → m.level ≡ k + 1 → DecidedAt T k → IsLeastCut T m.on k keep) → IsResolved known T start m m.lowest
+      → IsLearnedClause known T start learned keep
+  point start keep cut (inl none) = elim walk.level [
+    | inl zero ↦ inl (none.1, ap (λ (n : ℕ). map negation (held m.on (literals (take n T)))) zero.1)
+    | inr r ↦ absurd (omega (arith, none.0, r.1))
+  ]
+  point start keep cut (inr s) =
+      let late = late_place s.0 s.1.is in
+      let least_cut = cut s.0 s.1.is s.1.reached.decided in
+      inr (
+        s.0,
+        s.1.reached,
+        record {
+          between = s.1.between;
+          resolved = s.1.resolved;
+          late = negation late.1.lit;
+          one = one s.0 keep s.1.is least_cut late.0 late.1 late.2 late.3 late.4;
+          keeps = keeps s.0 keep s.1.is least_cut late.0 late.1 late.2 late.3 late.4;
+          least = least s.0 keep s.1.is least_cut late.0 late.1 late.2 late.3 late.4;
+        },
+      )
+
+  pub exact_law : (start : Start) (lits clause : List Lit) (keep : ℕ) → clause ≡ map negation (held m.on (literals (take m.lowest T)))
+      → ((k : ℕ) → m.level ≡ k + 1 → DecidedAt T k → IsLeastCut T m.on k keep) → AreFalseAt known start lits → IsResolved known T lits m m.lowest
+      → IsLearnedBy known T start clause keep
+  exact_law start lits clause keep e cut are resolved = (lits, are, subst (λ (ls : List Lit). IsLearnedClause known T lits ls keep) (sym e) (point lits keep cut resolved))

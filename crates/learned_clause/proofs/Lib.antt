@@ -4,4 +4,5 @@ pub mod ExampleLaws
 pub mod MarkLaws
 pub mod MemberLaws
 pub mod PlaceLaws
+pub mod ResolutionLaws
 pub mod StepLaws

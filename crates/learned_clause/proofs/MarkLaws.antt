@@ -87,7 +87,8 @@ marked_none m = record {
   only = λ a is. inl is;
 }
 
-pub marked_more : (old now new : Marks) (lits : List Lit) (l : Lit) → l.atom < length old.on → AreMarked old lits now → IsMarked now l.atom new → AreMarked old (lits ++ l ∷ []) new
+pub marked_more : (old now new : Marks) (lits : List Lit) (l : Lit) → l.atom < length old.on → AreMarked old lits now → IsMarked now l.atom new
+    → AreMarked old (lits ++ l ∷ []) new
 marked_more old now new lits l less all m = record {
   sized = ap (λ (on : List Bool). length on) m.on ∙ length-set now.on l.atom true ∙ all.sized;
   ranks = m.ranks ∙ all.ranks;
@@ -118,10 +119,12 @@ below_at n (x ∷ xs) (suc k) l below g = below_at n xs k l below.1 g
 pub take_next : {X : Type 0} (xs : List X) (k : ℕ) (x : X) → slice_get xs k ≡ Some x → take (k + 1) xs ≡ take k xs ++ x ∷ []
 take_next {X} xs k x g = take_more xs k x (slice_get_within xs k x g) ∙ ap (λ (y : X). take k xs ++ y ∷ []) (get_or_from_slice_get xs k x x g)
 
-pub marks_room : (old now : Marks) (done lits : List Lit) (k : ℕ) (l : Lit) → AreMarked old done now → Below (length old.on) lits → slice_get lits k ≡ Some l → l.atom < length now.on
+pub marks_room : (old now : Marks) (done lits : List Lit) (k : ℕ) (l : Lit) → AreMarked old done now → Below (length old.on) lits
+    → slice_get lits k ≡ Some l → l.atom < length now.on
 marks_room old now done lits k l marked below g = let h = below_at (length old.on) lits k l below g in omega (arith, marked.sized)
 
-pub marks_next : (old now new : Marks) (lits : List Lit) (k : ℕ) (l : Lit) → Below (length old.on) lits → slice_get lits k ≡ Some l → AreMarked old (take k lits) now → IsMarked now l.atom new → AreMarked old (take (k + 1) lits) new
+pub marks_next : (old now new : Marks) (lits : List Lit) (k : ℕ) (l : Lit) → Below (length old.on) lits → slice_get lits k ≡ Some l
+    → AreMarked old (take k lits) now → IsMarked now l.atom new → AreMarked old (take (k + 1) lits) new
 marks_next old now new lits k l below g marked m =
     subst (λ (ls : List Lit). AreMarked old ls new) (sym (take_next lits k l g)) (marked_more old now new (take k lits) l (below_at (length old.on) lits k l below g) marked m)
 
@@ -140,7 +143,8 @@ within_push : (ps : List Part) (p : Part) → AreWithin ps → unsigned_abs p.mu
 within_push [] p within small = (small, tt)
 within_push (q ∷ qs) p within small = (within.0, within_push qs p within.1 small)
 
-pub within_next : (ps : List Part) (k : ℕ) (p : Part) → slice_get ps k ≡ Some p → unsigned_abs p.mult < 2 ^ 127 → AreWithin (take k ps) → AreWithin (take (k + 1) ps)
+pub within_next : (ps : List Part) (k : ℕ) (p : Part) → slice_get ps k ≡ Some p → unsigned_abs p.mult < 2 ^ 127 → AreWithin (take k ps)
+    → AreWithin (take (k + 1) ps)
 within_next ps k p g small within = subst AreWithin (sym (take_next ps k p g)) (within_push (take k ps) p within small)
 
 pub within_all : (ps : List Part) (k : ℕ) → length ps ≤ k → AreWithin (take k ps) → AreWithin ps

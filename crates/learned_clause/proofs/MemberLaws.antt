@@ -85,7 +85,8 @@ false-negations path [] inside = tt
 false-negations path (x ∷ xs) inside =
     (subst (λ (m : Lit). Has m path) (sym (negation-negation x)) (inside x (inl refl)), false-negations path xs (λ m h. inside m (inr h)))
 
-pub others-negations : (path : List Lit) (l : Lit) (xs : List Lit) → ((x : Lit) → Has x xs → (x ≡ l) ⊎ Has x path) → OthersFalse path (negation l) (map negation xs)
+pub others-negations : (path : List Lit) (l : Lit) (xs : List Lit) → ((x : Lit) → Has x xs → (x ≡ l) ⊎ Has x path)
+    → OthersFalse path (negation l) (map negation xs)
 others-negations path l [] each = tt
 others-negations path l (x ∷ xs) each = (
   elim (each x (inl refl)) [ inl e ↦ inl (ap negation e) | inr h ↦ inr (subst (λ (m : Lit). Has m path) (sym (negation-negation x)) h) ],
@@ -123,7 +124,8 @@ pub held-Has : (on : List Bool) (l : Lit) (xs : List Lit) → Has l (held on xs)
 held-Has on l [] h = absurd h
 held-Has on l (x ∷ xs) h = by (λ t. let r = held-Has on l xs t in (inr r.0, r.1)) (is_on on x.atom) refl h
   where
-    by : (Has l (held on xs) → Has l (x ∷ xs) × (is_on on l.atom ≡ true)) → (b : Bool) → is_on on x.atom ≡ b → Has l (if_on b x (held on xs)) → Has l (x ∷ xs) × (is_on on l.atom ≡ true)
+    by : (Has l (held on xs) → Has l (x ∷ xs) × (is_on on l.atom ≡ true)) → (b : Bool) → is_on on x.atom ≡ b → Has l (if_on b x (held on xs))
+        → Has l (x ∷ xs) × (is_on on l.atom ≡ true)
     by later true e g = elim g [ inl s ↦ (inl s, ap (λ (m : Lit). is_on on m.atom) s ∙ e) | inr t ↦ later t ]
     by later false e g = later g
 

@@ -24,7 +24,8 @@ front-Has l (suc n) (x ∷ xs) h = elim h [ inl s ↦ (zero, x, omega arith, ref
     less : (k m : ℕ) → k < m → suc k < suc m
     less k m h = omega arith
 
-    later : ((k : ℕ) × (e : Entry) × (k < n) × (slice_get xs k ≡ Some e) × (e.lit ≡ l)) → (k : ℕ) × (e : Entry) × (k < suc n) × (slice_get (x ∷ xs) k ≡ Some e) × (e.lit ≡ l)
+    later : ((k : ℕ) × (e : Entry) × (k < n) × (slice_get xs k ≡ Some e) × (e.lit ≡ l))
+        → (k : ℕ) × (e : Entry) × (k < suc n) × (slice_get (x ∷ xs) k ≡ Some e) × (e.lit ≡ l)
     later r = (suc r.0, r.1, less r.0 n r.2, r.3, r.4)
 
 pub Has-place : (T : List Entry) (k : ℕ) (e : Entry) → slice_get T k ≡ Some e → Has e.lit (literals T)
@@ -54,7 +55,8 @@ place_exists (x ∷ xs) (suc k) less = place_exists xs k (omega arith)
 
 -- ---- trails
 
-pub front_free : (n : ℕ) (known : List (List Lit)) (T : List Entry) → IsTrail n known T → (k : ℕ) (e : Entry) → slice_get T k ≡ Some e → HasAtom e.lit.atom (literals (take k T)) → ⊥
+pub front_free : (n : ℕ) (known : List (List Lit)) (T : List Entry) → IsTrail n known T → (k : ℕ) (e : Entry) → slice_get T k ≡ Some e
+    → HasAtom e.lit.atom (literals (take k T)) → ⊥
 front_free n known T trail k e g = (trail.stands k e g).free.1
 
 pub trail_apart : (n : ℕ) (known : List (List Lit)) (T : List Entry) → IsTrail n known T → AreApart n T

@@ -29,7 +29,8 @@ ranked_none T ranks zeros = record {
   only = λ a k is. let h = zeros a in absurd (omega arith);
 }
 
-pub ranked_more : (n : ℕ) (T : List Entry) (ranks : List ℕ) (k : ℕ) (e : Entry) → AreApart n T → length ranks ≡ n → slice_get T k ≡ Some e → AreRanked T k ranks → AreRanked T (k + 1) (slice_set ranks e.lit.atom (k + 1))
+pub ranked_more : (n : ℕ) (T : List Entry) (ranks : List ℕ) (k : ℕ) (e : Entry) → AreApart n T → length ranks ≡ n → slice_get T k ≡ Some e
+    → AreRanked T k ranks → AreRanked T (k + 1) (slice_set ranks e.lit.atom (k + 1))
 ranked_more n T ranks k e apart sized g ranked = record {
   each = λ j d less h. each j d less h (cases_eq j k);
   only = λ a j is. only a j is (cases_eq a e.lit.atom);
@@ -44,7 +45,8 @@ ranked_more n T ranks k e apart sized g ranked = record {
     there : (a : ℕ) → (a ≡ e.lit.atom → ⊥) → slice_index (slice_set ranks e.lit.atom (k + 1)) a ≡ slice_index ranks a
     there a differs = get_or-set_other ranks e.lit.atom a (k + 1) 0 differs
 
-    each : (j : ℕ) (d : Entry) → j < k + 1 → slice_get T j ≡ Some d → (j ≡ k) ⊎ (j ≡ k → ⊥) → slice_index (slice_set ranks e.lit.atom (k + 1)) d.lit.atom ≡ j + 1
+    each : (j : ℕ) (d : Entry) → j < k + 1 → slice_get T j ≡ Some d → (j ≡ k) ⊎ (j ≡ k → ⊥)
+        → slice_index (slice_set ranks e.lit.atom (k + 1)) d.lit.atom ≡ j + 1
     each j d less h cases = elim cases [
       | inl same ↦
           let at_k : slice_get T k ≡ Some d = subst (λ (i : ℕ). slice_get T i ≡ Some d) same h in
@@ -52,7 +54,8 @@ ranked_more n T ranks k e apart sized g ranked = record {
       | inr differs ↦ there d.lit.atom (λ s. differs (apart.apart j k d e h g s)) ∙ ranked.each j d (omega arith) h
     ]
 
-    only : (a j : ℕ) → slice_index (slice_set ranks e.lit.atom (k + 1)) a ≡ j + 1 → (a ≡ e.lit.atom) ⊎ (a ≡ e.lit.atom → ⊥) → (d : Entry) × (slice_get T j ≡ Some d) × (d.lit.atom ≡ a) × (j < k + 1)
+    only : (a j : ℕ) → slice_index (slice_set ranks e.lit.atom (k + 1)) a ≡ j + 1 → (a ≡ e.lit.atom) ⊎ (a ≡ e.lit.atom → ⊥)
+        → (d : Entry) × (slice_get T j ≡ Some d) × (d.lit.atom ≡ a) × (j < k + 1)
     only a j is cases = elim cases [
       | inl same ↦
           let there : k + 1 ≡ j + 1 = sym here ∙ ap (λ (b : ℕ). slice_index (slice_set ranks e.lit.atom (k + 1)) b) (sym same) ∙ is in
@@ -82,7 +85,9 @@ below_parts n c T (p ∷ ps) apart parts =
 same_ranks : (T : List Entry) (n : ℕ) (ranks new : List ℕ) → new ≡ ranks → AreRanked T n ranks → AreRanked T n new
 same_ranks T n ranks new e ranked = subst (AreRanked T n) (sym e) ranked
 
-pub begun_clause : (c : Rows) (known : List (List Lit)) (T : List Entry) (old new : Marks) (n : ℕ) (tree : Tree) (lits : List Lit) → AreFresh (length c.atoms) T old → slice_get known n ≡ Some lits → IsFalseOn (literals T) lits → AreMarked old lits new → tree ≡ clause n → IsBegun c known T new tree
+pub begun_clause : (c : Rows) (known : List (List Lit)) (T : List Entry) (old new : Marks) (n : ℕ) (tree : Tree) (lits : List Lit)
+    → AreFresh (length c.atoms) T old → slice_get known n ≡ Some lits → IsFalseOn (literals T) lits → AreMarked old lits new → tree ≡ clause n
+    → IsBegun c known T new tree
 begun_clause c known T old new n tree lits fresh g false_here marked e = subst (IsBegun c known T new) (sym e) (record {
   sized = marked.sized ∙ fresh.sized;
   ranked = same_ranks T (length T) old.ranks new.ranks marked.ranks fresh.ranked;
@@ -91,7 +96,9 @@ begun_clause c known T old new n tree lits fresh g false_here marked e = subst (
   leaves = tt;
 })
 
-pub begun_sums : (c : Rows) (known : List (List Lit)) (T : List Entry) (old new : Marks) (tree : Tree) (parts : List Part) → AreFresh (length c.atoms) T old → length parts ≤ 2049 → IsContradiction c (literals T) parts → SumsFit c parts → AreWithin parts → AreMarked old (map (λ p. p.lit) parts) new → tree ≡ farkas parts → IsBegun c known T new tree
+pub begun_sums : (c : Rows) (known : List (List Lit)) (T : List Entry) (old new : Marks) (tree : Tree) (parts : List Part)
+    → AreFresh (length c.atoms) T old → length parts ≤ 2049 → IsContradiction c (literals T) parts → SumsFit c parts → AreWithin parts
+    → AreMarked old (map (λ p. p.lit) parts) new → tree ≡ farkas parts → IsBegun c known T new tree
 begun_sums c known T old new tree parts fresh few against fits within marked e = subst (IsBegun c known T new) (sym e) (record {
   sized = marked.sized ∙ fresh.sized;
   ranked = same_ranks T (length T) old.ranks new.ranks marked.ranks fresh.ranked;
@@ -191,7 +198,8 @@ level_law T old new last level lowest top decision rank on ranks is_level is_low
 
 -- ---- a step
 
-pub walk_skip : (c : Rows) (known : List (List Lit)) (T : List Entry) (m : Marks) (tree : Tree) (k : ℕ) (e : Entry) → IsWalk c known T m tree (k + 1) → m.lowest ≤ k → slice_get T k ≡ Some e → is_on m.on e.lit.atom ≡ false → IsWalk c known T m tree k
+pub walk_skip : (c : Rows) (known : List (List Lit)) (T : List Entry) (m : Marks) (tree : Tree) (k : ℕ) (e : Entry) → IsWalk c known T m tree (k + 1)
+    → m.lowest ≤ k → slice_get T k ≡ Some e → is_on m.on e.lit.atom ≡ false → IsWalk c known T m tree k
 walk_skip c known T m tree k e walk above g off = record {
   sized = walk.sized;
   ranked = walk.ranked;
@@ -206,17 +214,20 @@ walk_skip c known T m tree k e walk above g off = record {
 }
 
 -- the entry at a place of the walk isn't a decision
-pub walk_follows : (c : Rows) (known : List (List Lit)) (T : List Entry) (m : Marks) (tree : Tree) (k : ℕ) (e : Entry) → IsWalk c known T m tree (k + 1) → m.lowest ≤ k → slice_get T k ≡ Some e → e.by ≡ None → ⊥
+pub walk_follows : (c : Rows) (known : List (List Lit)) (T : List Entry) (m : Marks) (tree : Tree) (k : ℕ) (e : Entry) → IsWalk c known T m tree (k + 1)
+    → m.lowest ≤ k → slice_get T k ≡ Some e → e.by ≡ None → ⊥
 walk_follows c known T m tree k e walk above g is = walk.follow k e (omega (arith, walk.lowest.level)) (omega arith) g is
 
-pub reason_of : (n : ℕ) (known : List (List Lit)) (T : List Entry) → IsTrail n known T → (k : ℕ) (e : Entry) (number : ℕ) → slice_get T k ≡ Some e → e.by ≡ Some number → IsReason known (literals (take k T)) e.lit number
+pub reason_of : (n : ℕ) (known : List (List Lit)) (T : List Entry) → IsTrail n known T → (k : ℕ) (e : Entry) (number : ℕ) → slice_get T k ≡ Some e
+    → e.by ≡ Some number → IsReason known (literals (take k T)) e.lit number
 reason_of n known T trail k e number g is = by e.by is (trail.stands k e g).founded
   where
     by : (o : Option ℕ) → o ≡ Some number → IsFounded known (literals (take k T)) e.lit o → IsReason known (literals (take k T)) e.lit number
     by None s founded = absurd (cc)
     by (Some m) s founded = subst (λ (i : ℕ). IsReason known (literals (take k T)) e.lit i) (same_Some m number s) founded
 
-pub below_others : (n : ℕ) (T : List Entry) (k : ℕ) (e : Entry) (ls : List Lit) → AreApart n T → slice_get T k ≡ Some e → OthersFalse (literals (take k T)) e.lit ls → Below n ls
+pub below_others : (n : ℕ) (T : List Entry) (k : ℕ) (e : Entry) (ls : List Lit) → AreApart n T → slice_get T k ≡ Some e
+    → OthersFalse (literals (take k T)) e.lit ls → Below n ls
 below_others n T k e [] apart g others = tt
 below_others n T k e (x ∷ xs) apart g others = (first others.0, below_others n T k e xs apart g others.1)
   where
@@ -275,7 +286,8 @@ none_on zero a = refl
 none_on (suc n) zero = refl
 none_on (suc n) (suc a) = none_on n a
 
-fresh_law : (n : ℕ) (T : List Entry) (m : Marks) (k : ℕ) → m.on ≡ replicate n false → AreRanked T k m.ranks → length T ≤ k → m.level ≡ 0 → m.lowest ≡ 0 → AreFresh n T m
+fresh_law : (n : ℕ) (T : List Entry) (m : Marks) (k : ℕ) → m.on ≡ replicate n false → AreRanked T k m.ranks → length T ≤ k → m.level ≡ 0 → m.lowest ≡ 0
+    → AreFresh n T m
 fresh_law n T m k on ranked past level lowest = record {
   sized = ap (λ (o : List Bool). length o) on ∙ length-replicate n false;
   off = λ a. ap (λ (o : List Bool). is_on o a) on ∙ none_on n a;
@@ -291,18 +303,22 @@ pub started : (n : ℕ) (trail : List Assigned) (on : List Bool) (ranks : List �
 started n trail on ranks k is ranked past =
     fresh_law n (entries trail) (record { on = on; ranks = ranks; level = 0; lowest = 0 }) k is ranked (omega (arith, length-map trail entry)) refl refl
 
-pub ranked_next : (n : ℕ) (T : List Entry) (ranks new : List ℕ) (k : ℕ) (e : Entry) → AreApart n T → length ranks ≡ n → slice_get T k ≡ Some e → AreRanked T k ranks → new ≡ slice_set ranks e.lit.atom (k + 1) → (length new ≡ n) × AreRanked T (k + 1) new
+pub ranked_next : (n : ℕ) (T : List Entry) (ranks new : List ℕ) (k : ℕ) (e : Entry) → AreApart n T → length ranks ≡ n → slice_get T k ≡ Some e
+    → AreRanked T k ranks → new ≡ slice_set ranks e.lit.atom (k + 1) → (length new ≡ n) × AreRanked T (k + 1) new
 ranked_next n T ranks new k e apart sized g ranked is =
     (ap (λ (rs : List ℕ). length rs) is ∙ length-set ranks e.lit.atom (k + 1) ∙ sized, subst (AreRanked T (k + 1)) (sym is) (ranked_more n T ranks k e apart sized g ranked))
 
-pub start_false : (c : Rows) (known : List (List Lit)) (path lits : List Lit) (number : ℕ) → IsFalseStart c known path (Clause number) → slice_get known number ≡ Some lits → IsFalseOn path lits
+pub start_false : (c : Rows) (known : List (List Lit)) (path lits : List Lit) (number : ℕ) → IsFalseStart c known path (Clause number)
+    → slice_get known number ≡ Some lits → IsFalseOn path lits
 start_false c known path lits number start g = subst (IsFalseOn path) (same_Some start.0 lits (sym start.1 ∙ g)) start.2
 
-pub start_below : (c : Rows) (known : List (List Lit)) (T : List Entry) (m : Marks) (lits : List Lit) (number : ℕ) → IsTrail (length c.atoms) known T → AreFresh (length c.atoms) T m → IsFalseStart c known (literals T) (Clause number) → slice_get known number ≡ Some lits → Below (length m.on) lits
+pub start_below : (c : Rows) (known : List (List Lit)) (T : List Entry) (m : Marks) (lits : List Lit) (number : ℕ) → IsTrail (length c.atoms) known T
+    → AreFresh (length c.atoms) T m → IsFalseStart c known (literals T) (Clause number) → slice_get known number ≡ Some lits → Below (length m.on) lits
 start_below c known T m lits number trail fresh start g =
     subst (λ (n : ℕ). Below n lits) (sym fresh.sized) (below_false (length c.atoms) T lits (trail_apart (length c.atoms) known T trail) (start_false c known (literals T) lits number start g))
 
-pub clash_below : (c : Rows) (known : List (List Lit)) (T : List Entry) (m : Marks) (parts slice : List Part) → IsTrail (length c.atoms) known T → AreFresh (length c.atoms) T m → IsContradiction c (literals T) parts → slice ≡ parts → Below (length m.on) (map (λ p. p.lit) slice)
+pub clash_below : (c : Rows) (known : List (List Lit)) (T : List Entry) (m : Marks) (parts slice : List Part) → IsTrail (length c.atoms) known T
+    → AreFresh (length c.atoms) T m → IsContradiction c (literals T) parts → slice ≡ parts → Below (length m.on) (map (λ p. p.lit) slice)
 clash_below c known T m parts slice trail fresh against is =
     subst (λ (n : ℕ). Below n (map (λ p. p.lit) slice)) (sym fresh.sized) (subst (λ (ps : List Part). Below (length c.atoms) (map (λ p. p.lit) ps)) (sym is) (below_parts (length c.atoms) c T parts (trail_apart (length c.atoms) known T trail) against.rows))
 
@@ -313,26 +329,34 @@ none_negative c path (p ∷ ps) parts = (parts.2, none_negative c path ps parts.
 pub clash_mults : (c : Rows) (path : List Lit) (parts slice : List Part) → IsContradiction c path parts → slice ≡ parts → NoneNegative slice
 clash_mults c path parts slice against is = subst NoneNegative (sym is) (none_negative c path parts against.rows)
 
-pub begun_clash : (c : Rows) (known : List (List Lit)) (T : List Entry) (old new : Marks) (tree : Tree) (parts slice : List Part) → AreFresh (length c.atoms) T old → IsFalseStart c known (literals T) (Clash parts) → slice ≡ parts → AreWithin slice → AreMarked old (map (λ p. p.lit) slice) new → tree ≡ farkas parts → IsBegun c known T new tree
+pub begun_clash : (c : Rows) (known : List (List Lit)) (T : List Entry) (old new : Marks) (tree : Tree) (parts slice : List Part)
+    → AreFresh (length c.atoms) T old → IsFalseStart c known (literals T) (Clash parts) → slice ≡ parts → AreWithin slice
+    → AreMarked old (map (λ p. p.lit) slice) new → tree ≡ farkas parts → IsBegun c known T new tree
 begun_clash c known T old new tree parts slice fresh start is within marked made =
     begun_sums c known T old new tree parts fresh start.0 start.1 start.2 (subst AreWithin is within) (subst (λ (ps : List Part). AreMarked old (map (λ p. p.lit) ps) new) is marked) made
 
-pub step_known : (n : ℕ) (known : List (List Lit)) (T : List Entry) → IsTrail n known T → (k : ℕ) (e : Entry) (number : ℕ) → slice_get T k ≡ Some e → e.by ≡ Some number → number < length known
+pub step_known : (n : ℕ) (known : List (List Lit)) (T : List Entry) → IsTrail n known T → (k : ℕ) (e : Entry) (number : ℕ) → slice_get T k ≡ Some e
+    → e.by ≡ Some number → number < length known
 step_known n known T trail k e number g is = let w = reason_of n known T trail k e number g is in slice_get_within known number w.0 w.1
 
-pub step_below : (c : Rows) (known : List (List Lit)) (T : List Entry) (m : Marks) (k : ℕ) (e : Entry) (number : ℕ) (reason : List Lit) → IsTrail (length c.atoms) known T → length m.on ≡ length c.atoms → slice_get T k ≡ Some e → e.by ≡ Some number → slice_get known number ≡ Some reason → Below (length m.on) reason
+pub step_below : (c : Rows) (known : List (List Lit)) (T : List Entry) (m : Marks) (k : ℕ) (e : Entry) (number : ℕ) (reason : List Lit)
+    → IsTrail (length c.atoms) known T → length m.on ≡ length c.atoms → slice_get T k ≡ Some e → e.by ≡ Some number → slice_get known number ≡ Some reason
+    → Below (length m.on) reason
 step_below c known T m k e number reason trail sized g is r =
     let w = reason_of (length c.atoms) known T trail k e number g is in
     subst (λ (n : ℕ). Below n reason) (sym sized) (below_others (length c.atoms) T k e reason (trail_apart (length c.atoms) known T trail) g (subst (OthersFalse (literals (take k T)) e.lit) (same_Some w.0 reason (sym w.1 ∙ r)) w.3))
 
 -- the clause with the literal of one entry more
-pub clause_with : (on : List Bool) (T : List Entry) (k : ℕ) (e : Entry) (clause : List Lit) → slice_get T k ≡ Some e → is_on on e.lit.atom ≡ true → clause ≡ map negation (held on (literals (take k T))) → clause ++ negation e.lit ∷ [] ≡ map negation (held on (literals (take (k + 1) T)))
+pub clause_with : (on : List Bool) (T : List Entry) (k : ℕ) (e : Entry) (clause : List Lit) → slice_get T k ≡ Some e → is_on on e.lit.atom ≡ true
+    → clause ≡ map negation (held on (literals (take k T))) → clause ++ negation e.lit ∷ [] ≡ map negation (held on (literals (take (k + 1) T)))
 clause_with on T k e made g is so_far =
     ap (λ (ls : List Lit). ls ++ negation e.lit ∷ []) so_far ∙ sym (ap (λ (ls : List Lit). map negation (held on ls)) (front_more T k e g) ∙ ap (map negation) (held-push on (literals (take k T)) e.lit true is) ∙ map-append negation (held on (literals (take k T))) (e.lit ∷ []))
 
-pub clause_without : (on : List Bool) (T : List Entry) (k : ℕ) (e : Entry) (clause : List Lit) → slice_get T k ≡ Some e → is_on on e.lit.atom ≡ false → clause ≡ map negation (held on (literals (take k T))) → clause ≡ map negation (held on (literals (take (k + 1) T)))
+pub clause_without : (on : List Bool) (T : List Entry) (k : ℕ) (e : Entry) (clause : List Lit) → slice_get T k ≡ Some e → is_on on e.lit.atom ≡ false
+    → clause ≡ map negation (held on (literals (take k T))) → clause ≡ map negation (held on (literals (take (k + 1) T)))
 clause_without on T k e made g is so_far =
     so_far ∙ sym (ap (λ (ls : List Lit). map negation (held on ls)) (front_more T k e g) ∙ ap (map negation) (held-push on (literals (take k T)) e.lit false is ∙ append-nil (held on (literals (take k T)))))
 
-pub whole_trail : (trail : List Assigned) (on : List Bool) (last : ℕ) → IsLastOn (entries trail) on (length trail) last → IsLastOn (entries trail) on (length (entries trail)) last
+pub whole_trail : (trail : List Assigned) (on : List Bool) (last : ℕ) → IsLastOn (entries trail) on (length trail) last
+    → IsLastOn (entries trail) on (length (entries trail)) last
 whole_trail trail on last top = subst (λ (n : ℕ). IsLastOn (entries trail) on n last) (sym (length-map trail entry)) top

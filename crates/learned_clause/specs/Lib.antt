@@ -1,5 +1,6 @@
 pub mod Examples
 pub mod Learning
 pub mod LightTrees
+pub mod Resolutions
 pub mod Trails
 pub mod Walks

@@ -1,11 +1,13 @@
 -- What is kept while a clause is resolved backwards along a trail: the atoms that it names, where each atom stands, and a tree.
-use Rattle.std.specs.Prelude.{◌≡◌, ℕ, ◌+◌, ◌<◌, ◌≤◌, ◌⊎◌, Bool, true, false, List, [], ◌∷◌, take, length, None, Some, slice_get, slice_index, slice_index_or, slice_set, pos, ◌≤ℤ◌, if◌then◌else◌}
+use Rattle.std.specs.Prelude.{◌≡◌, ℕ, ◌+◌, ◌<◌, ◌≤◌, ◌⊎◌, Bool, true, false, List, [], ◌∷◌, map, take, length, None, Some, slice_get, slice_index, slice_index_or, slice_set, pos, ◌≤ℤ◌, if◌then◌else◌}
+use Rattle.farkas_cert.specs.Literals.{negation}
 use Rattle.farkas_cert.specs.Trees.{Tree, split, clause}
 use Rattle.farkas_cert.specs.declared.literals.Lit.{Lit}
 use Rattle.farkas_cert.specs.declared.trees.Part.{Part}
-use Rattle.clause_form.specs.Derivations.{Closes, Has, HasAtom, Rows}
+use Rattle.clause_form.specs.Derivations.{Closes, Has, HasAtom, IsFalseOn, Rows}
 use Rattle.clause_form.specs.Journals.{Entry, literals}
 use Rattle.learned_clause.specs.LightTrees.{HasLightLeaves, depth}
+use Rattle.learned_clause.specs.Resolutions.{HasNoLevel, IsLevelOf, Resolve}
 use Rattle.learned_clause.specs.Trails.{DecidedAt}
 use Rattle.learned_clause.specs.declared.marks.Marks.{Marks}
 
@@ -157,3 +159,26 @@ pub record IsLeastCut (trail : List Entry) (on : List Bool) (decision keep : ℕ
   pub decided : DecidedAt trail keep
   pub none : NoneOn trail on keep decision
   pub earlier : (k : ℕ) → k < keep → DecidedAt trail k → (j : ℕ) × (k ≤ j) × (j < keep) × OnAt trail on j
+
+-- ---- what is resolved
+
+-- the atoms that are on are those of these literals, all of them false on the trail
+pub record AreOn (trail : List Entry) (lits : List Lit) (on : List Bool) : Type 0 where
+  pub false_here : IsFalseOn (literals trail) lits
+  pub each : (l : Lit) → Has l lits → is_on on l.atom ≡ true
+  pub only : (atom : ℕ) → is_on on atom ≡ true → HasAtom atom lits
+
+-- the clause so far: the negations of the front's literals whose atoms are on
+abbrev pub so_far : List Entry → Marks → ℕ → List Lit
+so_far trail m many = map negation (held m.on (literals (take many trail)))
+
+-- from this level on, the start is resolved to the clause so far
+pub record IsResolvedFrom (known : List (List Lit)) (trail : List Entry) (start : List Lit) (m : Marks) (many level : ℕ) : Type 0 where
+  pub is : m.level ≡ level + 1
+  pub reached : IsLevelOf trail start level
+  pub between : List (List Lit)
+  pub resolved : Resolve known trail level start between (so_far trail m many)
+
+abbrev pub IsResolved : List (List Lit) → List Entry → List Lit → Marks → ℕ → Type 0
+IsResolved known trail start m many =
+    ((m.level ≡ 0) × HasNoLevel trail start) ⊎ ((level : ℕ) × IsResolvedFrom known trail start m many level)

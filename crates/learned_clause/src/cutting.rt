@@ -5,8 +5,8 @@ ghost use Rattle.farkas_cert.specs.Trees.{Tree};
 ghost use Rattle.farkas_cert.specs.declared.literals.Lit.{Lit};
 ghost use Rattle.clause_form.specs.Derivations.{Rows};
 ghost use Rattle.clause_form.specs.Journals.{literals};
-ghost use Rattle.learned_clause.specs.Trails.{DecidedAt, entries};
-ghost use Rattle.learned_clause.specs.Walks.{IsBegun, IsLastOn, IsLeastCut, IsLowestRank, IsWalk, held};
+ghost use Rattle.learned_clause.specs.Trails.{DecidedAt, IsTrail, entries};
+ghost use Rattle.learned_clause.specs.Walks.{AreOn, IsBegun, IsLastOn, IsLeastCut, IsLowestRank, IsResolved, IsWalk, held};
 
 use crate::marks::Marks;
 use crate::scans::{first_decision, first_on, last_decision, last_on};
@@ -18,7 +18,8 @@ use whole::NoMemory;
 /// Sets the level to the last decision before this last atom that is on.
 pub(crate) fn set_level(trail: &[Assigned], marks: &mut Marks, last: usize)
     requires { IsLastOn (entries trail.now) marks.old.on (length trail.now) last }
-    ensures { (c : Rows) (known : List (List Lit)) (tree : Tree) → IsBegun c known (entries trail.now) marks.old tree → IsWalk c known (entries trail.now) marks.new tree last }
+    ensures walk { (c : Rows) (known : List (List Lit)) (tree : Tree) → IsBegun c known (entries trail.now) marks.old tree → IsWalk c known (entries trail.now) marks.new tree last }
+    ensures resolved { (atoms : ℕ) (known : List (List Lit)) (lits : List Lit) → IsTrail atoms known (entries trail.now) → AreOn (entries trail.now) lits marks.old.on → IsResolved known (entries trail.now) lits marks.new last }
 {
     let level = last_decision(trail, last);
     marks.lowest = lowest(trail, marks, level, last);

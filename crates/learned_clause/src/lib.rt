@@ -17,4 +17,5 @@ mod scans;
 mod trails;
 
 pub use learning::{Learned, Start, learn};
+pub use resolving::known;
 pub use trails::Assigned;

@@ -1,11 +1,13 @@
 // The walk back along the trail, with the tree that it makes.
-ghost use Rattle.std.specs.Prelude.{◌≡◌, ◌+◌, ◌<◌, ◌≤◌, length, slice_get, IfOk, Some};
+ghost use Rattle.std.specs.Prelude.{◌≡◌, ◌+◌, ◌<◌, ◌≤◌, List, length, slice_get, IfOk, Some};
 ghost use Rattle.farkas_cert.specs.Trees.{tree_of};
+ghost use Rattle.farkas_cert.specs.declared.literals.Lit.{Lit};
 ghost use Rattle.clause_form.specs.Derivations.{rows_of};
 ghost use Rattle.clause_form.specs.Journals.{literals};
 ghost use Rattle.learned_clause.specs.Learning.{IsFalseStart};
+ghost use Rattle.learned_clause.specs.Resolutions.{AreFalseAt};
 ghost use Rattle.learned_clause.specs.Trails.{IsTrail, entries, known_with};
-ghost use Rattle.learned_clause.specs.Walks.{AreFresh, IsBegun, IsWalk, resolved};
+ghost use Rattle.learned_clause.specs.Walks.{AreFresh, AreOn, IsBegun, IsResolved, IsWalk, resolved};
 
 use crate::learning::Start;
 use crate::marks::Marks;
@@ -26,7 +28,8 @@ pub(crate) fn begin(
     requires trail { IsTrail (length clauses.now.atoms) (known_with clauses.now.clauses lemmas.now) (entries trail.now) }
     requires start { IsFalseStart (rows_of clauses.now) (known_with clauses.now.clauses lemmas.now) (literals (entries trail.now)) start }
     requires fresh { AreFresh (length clauses.now.atoms) (entries trail.now) marks.old }
-    ensures { IsBegun (rows_of clauses.now) (known_with clauses.now.clauses lemmas.now) (entries trail.now) marks.new (tree_of result) }
+    ensures begun { IsBegun (rows_of clauses.now) (known_with clauses.now.clauses lemmas.now) (entries trail.now) marks.new (tree_of result) }
+    ensures on { (lits : List Lit) → AreFalseAt (known_with clauses.now.clauses lemmas.now) start lits → AreOn (entries trail.now) lits marks.new.on }
 {
     match start {
         Start::Clause(number) => {
@@ -53,7 +56,8 @@ pub(crate) fn resolve(
 ) -> Result<Proof, NoMemory>
     requires trail { IsTrail (length clauses.now.atoms) (known_with clauses.now.clauses lemmas.now) (entries trail.now) }
     requires walk { IsWalk (rows_of clauses.now) (known_with clauses.now.clauses lemmas.now) (entries trail.now) marks.old (tree_of leaf) many }
-    ensures { IfOk result (λ tree. IsWalk (rows_of clauses.now) (known_with clauses.now.clauses lemmas.now) (entries trail.now) marks.new (tree_of tree) marks.new.lowest) }
+    ensures walk { IfOk result (λ tree. IsWalk (rows_of clauses.now) (known_with clauses.now.clauses lemmas.now) (entries trail.now) marks.new (tree_of tree) marks.new.lowest) }
+    ensures resolved { IfOk result (λ tree. (lits : List Lit) → IsResolved (known_with clauses.now.clauses lemmas.now) (entries trail.now) lits marks.old many → IsResolved (known_with clauses.now.clauses lemmas.now) (entries trail.now) lits marks.new marks.new.lowest) }
 {
     let mut tree = leaf;
     let mut k = many;
@@ -77,7 +81,8 @@ fn step(
     requires trail { IsTrail (length clauses.now.atoms) (known_with clauses.now.clauses lemmas.now) (entries trail.now) }
     requires walk { IsWalk (rows_of clauses.now) (known_with clauses.now.clauses lemmas.now) (entries trail.now) marks.old (tree_of tree) (k + 1) }
     requires above { marks.old.lowest ≤ k }
-    ensures { IfOk result (λ next. IsWalk (rows_of clauses.now) (known_with clauses.now.clauses lemmas.now) (entries trail.now) marks.new (tree_of next) k) }
+    ensures walk { IfOk result (λ next. IsWalk (rows_of clauses.now) (known_with clauses.now.clauses lemmas.now) (entries trail.now) marks.new (tree_of next) k) }
+    ensures resolved { IfOk result (λ next. (lits : List Lit) → IsResolved (known_with clauses.now.clauses lemmas.now) (entries trail.now) lits marks.old (k + 1) → IsResolved (known_with clauses.now.clauses lemmas.now) (entries trail.now) lits marks.new k) }
 {
     let entry = at(trail, k);
     if !marks.is_on(entry.lit.atom) {
@@ -104,7 +109,9 @@ fn resolved(alloc: Global, lit: Lit, number: u32, tree: Proof) -> Result<Proof, 
     }
 }
 
-fn known<'a>(clauses: &'a Clauses, lemmas: &'a [Lemma], number: u32) -> &'a [Lit]
+/// The literals of the clause with this number. The problem's clauses are counted first, from 0, and
+/// then the lemmas.
+pub fn known<'a>(clauses: &'a Clauses, lemmas: &'a [Lemma], number: u32) -> &'a [Lit]
     requires { number < length (known_with clauses.now.clauses lemmas.now) }
     ensures { slice_get (known_with clauses.now.clauses lemmas.now) number ≡ Some result.now }
 {
