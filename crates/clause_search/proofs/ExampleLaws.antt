@@ -22,18 +22,21 @@ use Rattle.clause_search.specs.Examples.{AreBelow, IsNamed, named_rows, names, s
 not_both : without_memory ≡ works → ⊥
 not_both e = cc
 
-pub tell_fine : (n : ℕ) (told told' : List Lit) (fine working : Bool) (l : Lit) → working ≡ true → told' ≡ told ++ l ∷ [] → HearsLiteral names (seen_names n told fine working) l heard.Fine (seen_names n told' false working)
+pub tell_fine : (n : ℕ) (told told' : List Lit) (fine working : Bool) (l : Lit) → working ≡ true → told' ≡ told ++ l ∷ []
+    → HearsLiteral names (seen_names n told fine working) l heard.Fine (seen_names n told' false working)
 tell_fine n told told' fine true l w e = record {
   at_work = λ work. (record { rows = refl; told = e; state = tt; fine = refl; rest = refl }, refl, λ h. h);
   at_rest = tt;
 }
 tell_fine n told told' fine false l w e = absurd (cc)
 
-pub tell_failed : (n : ℕ) (told told' : List Lit) (fine working : Bool) (l : Lit) → working ≡ true → HearsLiteral names (seen_names n told fine working) l heard.NoMemory (seen_names n told' fine false)
+pub tell_failed : (n : ℕ) (told told' : List Lit) (fine working : Bool) (l : Lit) → working ≡ true
+    → HearsLiteral names (seen_names n told fine working) l heard.NoMemory (seen_names n told' fine false)
 tell_failed n told told' fine true l w = record { at_work = λ work. (refl, refl); at_rest = tt }
 tell_failed n told told' fine false l w = absurd (cc)
 
-pub tell_refused : (n : ℕ) (told : List Lit) (fine working : Bool) (l : Lit) → working ≡ false → HearsLiteral names (seen_names n told fine working) l heard.NoMemory (seen_names n told fine working)
+pub tell_refused : (n : ℕ) (told : List Lit) (fine working : Bool) (l : Lit) → working ≡ false
+    → HearsLiteral names (seen_names n told fine working) l heard.NoMemory (seen_names n told fine working)
 tell_refused n told fine true l w = absurd (cc)
 tell_refused n told fine false l w = record { at_work = λ work. absurd (not_both work); at_rest = (refl, refl) }
 
@@ -52,7 +55,8 @@ plus_zero n = omega arith
 with_pivots : Budget → ℕ → Counts
 with_pivots b k = record { limit = b.limit; decisions = b.decisions; propagations = b.propagations; pivots = k; conflicts = b.conflicts }
 
-pub check_fine : (n : ℕ) (told : List Lit) (fine working : Bool) (b : Budget) (j : Journal) → working ≡ true → HearsCheck names (seen_names n told fine working) heard.Fine (seen_names n told true working) b b j j
+pub check_fine : (n : ℕ) (told : List Lit) (fine working : Bool) (b : Budget) (j : Journal) → working ≡ true
+    → HearsCheck names (seen_names n told fine working) heard.Fine (seen_names n told true working) b b j j
 unfolding with_pivots
 check_fine n told fine true b j w = record {
   pivots = [];
@@ -63,7 +67,8 @@ check_fine n told fine true b j w = record {
 }
 check_fine n told fine false b j w = absurd (cc)
 
-pub check_refused : (n : ℕ) (told : List Lit) (fine working : Bool) (b : Budget) (j : Journal) → working ≡ false → HearsCheck names (seen_names n told fine working) heard.NoMemory (seen_names n told fine working) b b j j
+pub check_refused : (n : ℕ) (told : List Lit) (fine working : Bool) (b : Budget) (j : Journal) → working ≡ false
+    → HearsCheck names (seen_names n told fine working) heard.NoMemory (seen_names n told fine working) b b j j
 unfolding with_pivots
 check_refused n told fine true b j w = absurd (cc)
 check_refused n told fine false b j w = record {
@@ -121,7 +126,8 @@ pub are_below_all : (n : ℕ) (cs : List (List Lit)) → All (λ c. All (λ l. l
 are_below_all n [] all = tt
 are_below_all n (c ∷ cs) all = (below_all n c (All-head (λ ls. All (λ l. l.atom < n) ls) c cs all), are_below_all n cs (All-tail (λ ls. All (λ l. l.atom < n) ls) c cs all))
 
-pub named_start : (n limit : ℕ) (c : Clauses) (seen : Seen (Unit {0})) (k : Counts) → IsNamed n c → seen ≡ seen_names n [] false true → k ≡ opening limit → limit ≤ 2 ^ 31 → IsStart names c seen k
+pub named_start : (n limit : ℕ) (c : Clauses) (seen : Seen (Unit {0})) (k : Counts) → IsNamed n c → seen ≡ seen_names n [] false true → k ≡ opening limit
+    → limit ≤ 2 ^ 31 → IsStart names c seen k
 named_start n limit c seen k named e f few =
     subst (λ (s : Seen (Unit {0})). IsStart names c s k) (sym e) (subst (λ (m : Counts). IsStart names c (seen_names n [] false true) m) (sym f) (record {
       formed = named.formed;

@@ -11,21 +11,40 @@ use Rattle.farkas_cert.specs.declared.journals.Move.TheVariants.{Decide, Propaga
 use Rattle.farkas_cert.specs.declared.literals.Lit.{Lit}
 use Rattle.cert_text.specs.Journals.{how_many, is_decide, is_propagate, is_pivot, is_conflict}
 use Rattle.clause_form.specs.declared.clauses.Clauses.{Clauses}
-use Rattle.clause_form.specs.Journals.{Entry, Last, Leads, MayMove, Moves, Place, Reaches, Sticks, exchange, is_charged, literal, opened}
+use Rattle.clause_form.specs.Journals.{Entry, IsOpen, Last, Leads, Moves, Place, Reaches, Sticks, cut, exchange, is_charged, literal, nothing, opened}
 use Rattle.clause_form.specs.Theories.{PivotsLead, Relations, StuckAfterPivots}
 use Rattle.clause_search.specs.Answers.{IsTally, starting_at}
 use Rattle.clause_search.specs.Courses.{move_of, place}
+use Rattle.clause_search.specs.Lessons.{IsOpenLearning, Learns, MayLearn, ReachesLearning, SticksLearning}
 use Rattle.clause_search.specs.Opened.{charge_of}
 
 -- ---- one move more
 
-moves_more : {S : Type 0} (R : Relations S) (c : Clauses) (ms : List Move) (m : Move) (p q r : Place S) → Moves R c p ms q → MayMove R c q m → Leads R c q m r → Moves R c p (ms ++ m ∷ []) r
-moves_more {S} R c [] m p q r e may leads =
-    (subst (λ (x : Place S). MayMove R c x m) (sym e) may, (r, subst (λ (x : Place S). Leads R c x m r) (sym e) leads, refl))
-moves_more R c (n ∷ ms) m p q r (first, (t, lead, rest)) may leads = (first, (t, lead, moves_more R c ms m t q r rest may leads))
+learns_more : {S : Type 0} (R : Relations S) (c : Clauses) (ms : List Move) (m : Move) (p q r : Place S) → Learns R c p ms q → MayLearn R c q m
+    → Leads R c q m r → Learns R c p (ms ++ m ∷ []) r
+learns_more {S} R c [] m p q r e may leads =
+    (subst (λ (x : Place S). MayLearn R c x m) (sym e) may, (r, subst (λ (x : Place S). Leads R c x m r) (sym e) leads, refl))
+learns_more R c (n ∷ ms) m p q r (first, (t, lead, rest)) may leads = (first, (t, lead, learns_more R c ms m t q r rest may leads))
 
-pub reaches_more : {S : Type 0} (R : Relations S) (c : Clauses) (ms : List Move) (m : Move) (q r : Place S) → Reaches R c ms q → MayMove R c q m → Leads R c q m r → Reaches R c (ms ++ m ∷ []) r
-reaches_more R c ms m q r reached may leads = (reached.0, reached.1, moves_more R c ms m (opened reached.0) q r reached.2 may leads)
+pub reaches_more : {S : Type 0} (R : Relations S) (c : Clauses) (ms : List Move) (m : Move) (q r : Place S) → ReachesLearning R c ms q → MayLearn R c q m
+    → Leads R c q m r → ReachesLearning R c (ms ++ m ∷ []) r
+reaches_more R c ms m q r reached may leads = (reached.0, reached.1, learns_more R c ms m (opened reached.0) q r reached.2 may leads)
+
+-- ---- what such journals are besides
+
+moves_of : {S : Type 0} (R : Relations S) (c : Clauses) (ms : List Move) (p q : Place S) → Learns R c p ms q → Moves R c p ms q
+moves_of R c [] p q e = e
+moves_of R c (m ∷ ms) p q (may, (r, leads, rest)) = (may.may, (r, leads, moves_of R c ms r q rest))
+
+pub reaches_of : {S : Type 0} (R : Relations S) (c : Clauses) (ms : List Move) (q : Place S) → ReachesLearning R c ms q → Reaches R c ms q
+reaches_of R c ms q (s, opens, learns) = (s, opens, moves_of R c ms (opened s) q learns)
+
+pub open_of : {S : Type 0} (R : Relations S) (c : Clauses) (ms : List Move) → IsOpenLearning R c ms → IsOpen R c ms
+open_of R c ms (p, m, reached, charged, may) = (p, m, reaches_of R c ms p reached, charged, may.may)
+
+pub sticks_of : {S : Type 0} (R : Relations S) (c : Clauses) (ms : List Move) (k : Stuck) → SticksLearning R c ms k → Sticks R c ms k
+sticks_of R c ms k (inl (p, reached, stuck)) = inl (p, reaches_of R c ms p reached, stuck)
+sticks_of R c ms k (inr (front, m, p, is, reached, may, stuck)) = inr (front, m, p, is, reaches_of R c front p reached, may.may, stuck)
 
 -- ---- rows of pivots
 
@@ -36,14 +55,31 @@ module _ {S : Type 0} (R : Relations S) (c : Clauses) (s : S) (trail : List Entr
   -- the moves reach this state, and a pivot may follow where one is allowed
   pub record IsPivoted (ms : List Move) (t : S) : Type 0 where
     pub last : Last
-    pub reached : Reaches (starting_at s R) c ms (place trail lemmas t last)
+    pub reached : ReachesLearning (starting_at s R) c ms (place trail lemmas t last)
+    pub moved : last ≡ cut → ⊥
     pub calm : last ≡ literal → R.contradicts t → ⊥
     pub turn : (b o : ℕ) → R.allowed_pivot t b o → (last ≡ literal) ⊎ (last ≡ exchange)
 
 not_literal : exchange ≡ literal → ⊥
 not_literal e = cc
 
-pub pivots_made : {S : Type 0} (R : Relations S) (c : Clauses) (s : S) (trail : List Entry) (lemmas : List Lemma) (ps : List (ℕ × ℕ)) (ms : List Move) (u t : S) → IsPivoted R c s trail lemmas ms u → PivotsLead R u ps t → IsPivoted R c s trail lemmas (ms ++ map pivot_of ps) t
+not_cut : exchange ≡ cut → ⊥
+not_cut e = cc
+
+pub literal_not_cut : literal ≡ cut → ⊥
+literal_not_cut e = cc
+
+pub nothing_not_cut : nothing ≡ cut → ⊥
+nothing_not_cut e = cc
+
+-- a pivot that may be made
+pub may_pivot : {S : Type 0} (R : Relations S) (c : Clauses) (s : S) (trail : List Entry) (lemmas : List Lemma) (ms : List Move) (t : S)
+    (there : IsPivoted R c s trail lemmas ms t) (b o : ℕ) → R.allowed_pivot t b o → MayLearn (starting_at s R) c (place trail lemmas t there.last) (Pivot b o)
+may_pivot R c s trail lemmas ms t there b o allowed =
+    record { may = (allowed, (there.calm, there.turn b o allowed)); teaches = tt; heeds = λ e. absurd (there.moved e) }
+
+pub pivots_made : {S : Type 0} (R : Relations S) (c : Clauses) (s : S) (trail : List Entry) (lemmas : List Lemma) (ps : List (ℕ × ℕ)) (ms : List Move)
+    (u t : S) → IsPivoted R c s trail lemmas ms u → PivotsLead R u ps t → IsPivoted R c s trail lemmas (ms ++ map pivot_of ps) t
 pivots_made {S} R c s trail lemmas [] ms u t before e =
     subst (λ (ns : List Move). IsPivoted R c s trail lemmas ns t) (sym (append-nil ms)) (subst (λ (x : S). IsPivoted R c s trail lemmas ms x) e before)
 pivots_made R c s trail lemmas (p ∷ ps) ms u t before (allowed, (v, leads, rest)) =
@@ -52,12 +88,14 @@ pivots_made R c s trail lemmas (p ∷ ps) ms u t before (allowed, (v, leads, res
     once : IsPivoted R c s trail lemmas (ms ++ pivot_of p ∷ []) v
     once = record {
       last = exchange;
-      reached = reaches_more (starting_at s R) c ms (pivot_of p) (place trail lemmas u before.last) (place trail lemmas v exchange) before.reached (allowed, (before.calm, before.turn p.0 p.1 allowed)) (refl, refl, leads, refl);
+      reached = reaches_more (starting_at s R) c ms (pivot_of p) (place trail lemmas u before.last) (place trail lemmas v exchange) before.reached (may_pivot R c s trail lemmas ms u before p.0 p.1 allowed) (refl, refl, leads, refl);
+      moved = not_cut;
       calm = λ e contradicts. not_literal e;
       turn = λ b o a. inr refl;
     }
 
-pub sticks_after : {S : Type 0} (R : Relations S) (c : Clauses) (s : S) (trail : List Entry) (lemmas : List Lemma) (ps : List (ℕ × ℕ)) (ms : List Move) (u : S) (k : Stuck) → IsPivoted R c s trail lemmas ms u → StuckAfterPivots R u ps k → Sticks (starting_at s R) c (ms ++ map pivot_of ps) k
+pub sticks_after : {S : Type 0} (R : Relations S) (c : Clauses) (s : S) (trail : List Entry) (lemmas : List Lemma) (ps : List (ℕ × ℕ)) (ms : List Move)
+    (u : S) (k : Stuck) → IsPivoted R c s trail lemmas ms u → StuckAfterPivots R u ps k → SticksLearning (starting_at s R) c (ms ++ map pivot_of ps) k
 sticks_after R c s trail lemmas ps ms u k before (inl (front, last, t, is, leads, allowed, stuck)) =
     let there = pivots_made R c s trail lemmas front ms u t before leads in
     inr (
@@ -66,7 +104,7 @@ sticks_after R c s trail lemmas ps ms u k before (inl (front, last, t, is, leads
       place trail lemmas t there.last,
       ap (λ (qs : List (ℕ × ℕ)). ms ++ map pivot_of qs) is ∙ ap (λ (ns : List Move). ms ++ ns) (map-append pivot_of front (last ∷ [])) ∙ sym (append_assoc ms (map pivot_of front) (pivot_of last ∷ [])),
       there.reached,
-      (allowed, (there.calm, there.turn last.0 last.1 allowed)),
+      may_pivot R c s trail lemmas (ms ++ map pivot_of front) t there last.0 last.1 allowed,
       stuck,
     )
 sticks_after R c s trail lemmas ps ms u k before (inr (t, leads, stuck)) =
@@ -78,7 +116,8 @@ sticks_after R c s trail lemmas ps ms u k before (inr (t, leads, stuck)) =
 pub count_more : (test : Move → Bool) (ms ns : List Move) → how_many test (ms ++ ns) ≡ how_many test ms + how_many test ns
 count_more test ms ns = ap length (filter-append test ms ns) ∙ length-append (filter test ms) (filter test ns)
 
-count_last : (test : Move → Bool) (ms : List Move) (m : Move) (n k : ℕ) → n ≡ how_many test ms → how_many test (m ∷ []) ≡ k → n + k ≡ how_many test (ms ++ m ∷ [])
+count_last : (test : Move → Bool) (ms : List Move) (m : Move) (n k : ℕ) → n ≡ how_many test ms → how_many test (m ∷ []) ≡ k
+    → n + k ≡ how_many test (ms ++ m ∷ [])
 count_last test ms m n k e f = ap (λ (i : ℕ). i + k) e ∙ ap (λ (i : ℕ). how_many test ms + i) (sym f) ∙ sym (count_more test ms (m ∷ []))
 
 count_same : (test : Move → Bool) (ms : List Move) (m : Move) (n : ℕ) → n ≡ how_many test ms → how_many test (m ∷ []) ≡ 0 → n ≡ how_many test (ms ++ m ∷ [])
@@ -116,7 +155,8 @@ all_pivots : (ps : List (ℕ × ℕ)) → how_many is_pivot (map pivot_of ps) �
 all_pivots [] = refl
 all_pivots (p ∷ ps) = ap suc (all_pivots ps)
 
-none_more : (test : Move → Bool) (ms : List Move) (ps : List (ℕ × ℕ)) (n : ℕ) → n ≡ how_many test ms → how_many test (map pivot_of ps) ≡ 0 → n ≡ how_many test (ms ++ map pivot_of ps)
+none_more : (test : Move → Bool) (ms : List Move) (ps : List (ℕ × ℕ)) (n : ℕ) → n ≡ how_many test ms → how_many test (map pivot_of ps) ≡ 0
+    → n ≡ how_many test (ms ++ map pivot_of ps)
 none_more test ms ps n e f = e ∙ plus_zero (how_many test ms) ∙ ap (λ (i : ℕ). how_many test ms + i) (sym f) ∙ sym (count_more test ms (map pivot_of ps))
   where
     plus_zero : (k : ℕ) → k ≡ k + 0
@@ -142,7 +182,8 @@ tally_pivots ms n ps t = record {
     no_conflict [] = refl
     no_conflict (q ∷ qs) = no_conflict qs
 
-pub charged_moves : {S : Type 0} (R : Relations S) (c : Clauses) (ms : List Move) → how_many (is_charged R c) ms ≡ how_many is_decide ms + how_many is_propagate ms + how_many is_pivot ms
+pub charged_moves : {S : Type 0} (R : Relations S) (c : Clauses) (ms : List Move)
+    → how_many (is_charged R c) ms ≡ how_many is_decide ms + how_many is_propagate ms + how_many is_pivot ms
 charged_moves R c [] = refl
 charged_moves R c (Decide l ∷ ms) = let rest = charged_moves R c ms in omega arith
 charged_moves R c (Propagate l n ∷ ms) = let rest = charged_moves R c ms in omega arith

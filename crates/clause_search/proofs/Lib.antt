@@ -4,6 +4,8 @@ pub mod StandingLaws
 pub mod TrailLaws
 pub mod JournalLaws
 pub mod CourseLaws
+pub mod SolutionLaws
+pub mod StartLaws
 pub mod ConflictLaws
 pub mod AnswerLaws
 pub mod ExampleLaws

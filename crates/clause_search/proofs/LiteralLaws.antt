@@ -157,12 +157,14 @@ others_each p (x ∷ xs) l each = (each x (inl refl), others_each p xs l (λ m h
 
 -- ---- clauses that are neither false nor unit
 
-pub settled_at : (known : List (List Lit)) (lits : List Lit) (k : ℕ) (clause : List Lit) → IsSettled known lits → slice_get known k ≡ Some clause → IsOpenClause lits clause
+pub settled_at : (known : List (List Lit)) (lits : List Lit) (k : ℕ) (clause : List Lit) → IsSettled known lits → slice_get known k ≡ Some clause
+    → IsOpenClause lits clause
 settled_at [] lits k clause all e = absurd (cc)
 settled_at (x ∷ xs) lits zero clause all e = let same : x ≡ clause = cc in subst (λ (y : List Lit). IsOpenClause lits y) same all.0
 settled_at (x ∷ xs) lits (suc k) clause all e = settled_at xs lits k clause all.1 e
 
-pub settled_each : (known : List (List Lit)) (lits : List Lit) → ((k : ℕ) (clause : List Lit) → slice_get known k ≡ Some clause → IsOpenClause lits clause) → IsSettled known lits
+pub settled_each : (known : List (List Lit)) (lits : List Lit)
+    → ((k : ℕ) (clause : List Lit) → slice_get known k ≡ Some clause → IsOpenClause lits clause) → IsSettled known lits
 settled_each [] lits each = tt
 settled_each (x ∷ xs) lits each = (each 0 x refl, settled_each xs lits (λ k clause e. each (suc k) clause e))
 

@@ -16,7 +16,8 @@ true_more lits front l h = (l, has_last l front, h)
 other_more : (lits front : List Lit) (l m : Lit) → HasOther lits l front → HasOther lits l (front ++ m ∷ [])
 other_more lits front l m o = record { other = o.other; has = has_front o.other front (m ∷ []) o.has; off = o.off; differs = o.differs }
 
-pub false_last : (lits front : List Lit) (l : Lit) (before : Standing) → Has (negation l) lits → StandsAs lits front before → StandsAs lits (front ++ l ∷ []) before
+pub false_last : (lits front : List Lit) (l : Lit) (before : Standing) → Has (negation l) lits → StandsAs lits front before
+    → StandsAs lits (front ++ l ∷ []) before
 false_last lits front l Satisfied h s = (s.0, has_front s.0 front (l ∷ []) s.1, s.2)
 false_last lits front l (Open m) h s = (has_front m front (l ∷ []) s.0, s.1, other_more lits front m l s.2)
 false_last lits front l (Single m) h s = (has_front m front (l ∷ []) s.0, s.1, others_more lits front m l s.2 (inr h))
@@ -28,7 +29,8 @@ first_free lits front l off f = (has_last l front, off, others_more lits front l
 pub same_free : (lits front : List Lit) (first l : Lit) → first ≡ l → StandsAs lits front (Single first) → StandsAs lits (front ++ l ∷ []) (Single first)
 same_free lits front first l e s = (has_front first front (l ∷ []) s.0, s.1, others_more lits front first l s.2 (inl (sym e)))
 
-pub second_free : (lits front : List Lit) (first l : Lit) → (first ≡ l → ⊥) → (HasAtom l.atom lits → ⊥) → StandsAs lits front (Single first) → StandsAs lits (front ++ l ∷ []) (Open first)
+pub second_free : (lits front : List Lit) (first l : Lit) → (first ≡ l → ⊥) → (HasAtom l.atom lits → ⊥) → StandsAs lits front (Single first)
+    → StandsAs lits (front ++ l ∷ []) (Open first)
 second_free lits front first l ne off s =
     (has_front first front (l ∷ []) s.0, s.1, record { other = l; has = has_last l front; off = off; differs = λ e. ne (sym e) })
 
@@ -78,7 +80,8 @@ same_clause known k n x y e f g = same (sym g ∙ ap (slice_get known) (sym e) �
     same : ◌≡◌ {A = Option (List Lit)} (Some y) (Some x) → y ≡ x
     same h = cc
 
-open_more : (known : List (List Lit)) (lits : List Lit) (n : ℕ) (x : List Lit) → AreOpenBelow known lits n → slice_get known n ≡ Some x → IsOpenClause lits x → AreOpenBelow known lits (n + 1)
+open_more : (known : List (List Lit)) (lits : List Lit) (n : ℕ) (x : List Lit) → AreOpenBelow known lits n → slice_get known n ≡ Some x
+    → IsOpenClause lits x → AreOpenBelow known lits (n + 1)
 open_more known lits n x below e opens k clause less is = elim (split k n less) [
   | inl before ↦ below k clause before is
   | inr at ↦ subst (λ (y : List Lit). IsOpenClause lits y) (same_clause known k n clause x at is e) opens
@@ -90,10 +93,12 @@ open_more known lits n x below e opens k clause less is = elim (split k n less) 
     split (suc k) zero h = absurd (omega arith)
     split (suc k) (suc n) h = elim (split k n (omega arith)) [ inl a ↦ inl (omega arith) | inr b ↦ inr (ap suc b) ]
 
-pub open_more_true : (known : List (List Lit)) (m : ℕ) (lits : List Lit) (n : ℕ) → NamesOnce m lits → AreOpenBelow known lits n → StandsAt known lits n Satisfied → AreOpenBelow known lits (n + 1)
+pub open_more_true : (known : List (List Lit)) (m : ℕ) (lits : List Lit) (n : ℕ) → NamesOnce m lits → AreOpenBelow known lits n
+    → StandsAt known lits n Satisfied → AreOpenBelow known lits (n + 1)
 open_more_true known m lits n once below at = open_more known lits n at.clause below at.is (open_by_true m lits at.clause once at.stands)
 
-pub open_more_two : (known : List (List Lit)) (lits : List Lit) (n : ℕ) (l : Lit) → AreOpenBelow known lits n → StandsAt known lits n (Open l) → AreOpenBelow known lits (n + 1)
+pub open_more_two : (known : List (List Lit)) (lits : List Lit) (n : ℕ) (l : Lit) → AreOpenBelow known lits n → StandsAt known lits n (Open l)
+    → AreOpenBelow known lits (n + 1)
 open_more_two known lits n l below at = open_more known lits n at.clause below at.is (open_by_two lits at.clause l at.stands)
 
 pub wanted : (known : List (List Lit)) (lits : List Lit) (n : ℕ) (l : Lit) → StandsAt known lits n (Open l) → IsWanted known lits l
@@ -107,7 +112,8 @@ all_settled known lits n e below = settled_each known lits (λ k clause is. belo
     within (y ∷ xs) zero x e = omega arith
     within (y ∷ xs) (suc k) x e = let rest : k < length xs = within xs k x e in omega arith
 
-pub wish_more : (known : List (List Lit)) (lits : List Lit) (n : ℕ) (wish wish' : Option Lit) (l : Lit) → wish' ≡ earlier_of wish l → IfWanted known lits wish → StandsAt known lits n (Open l) → IfWanted known lits wish'
+pub wish_more : (known : List (List Lit)) (lits : List Lit) (n : ℕ) (wish wish' : Option Lit) (l : Lit) → wish' ≡ earlier_of wish l
+    → IfWanted known lits wish → StandsAt known lits n (Open l) → IfWanted known lits wish'
 wish_more known lits n wish wish' l e before at = subst (λ (w : Option Lit). IfWanted known lits w) (sym e) (by wish before)
   where
     by : (w : Option Lit) → IfWanted known lits w → IfWanted known lits (earlier_of w l)

@@ -54,7 +54,8 @@ other_atom : (a b : ℕ) → nat_eq a b ≡ false → b ≢ a
 other_atom a b e same = true_not_false (sym (eq-eqb a b (sym same)) ∙ e)
 
 -- one literal more
-pub shows_more : (lits : List Lit) (l : Lit) (truths : List (Option Bool)) → l.atom < length truths → (HasAtom l.atom lits → ⊥) → Shows lits truths → Shows (lits ++ l ∷ []) (set truths l.atom (Some l.positive))
+pub shows_more : (lits : List Lit) (l : Lit) (truths : List (Option Bool)) → l.atom < length truths → (HasAtom l.atom lits → ⊥) → Shows lits truths
+    → Shows (lits ++ l ∷ []) (set truths l.atom (Some l.positive))
 shows_more lits l truths less off shows = record {
   once = subst (λ (n : ℕ). NamesOnce n (lits ++ l ∷ [])) (sym (length-set truths l.atom (Some l.positive))) (once_more (length truths) lits l shows.once less off);
   truth = λ atom. by atom (nat_eq l.atom atom) refl;
@@ -67,7 +68,8 @@ shows_more lits l truths less off shows = record {
         subst (λ (said : Option Bool). Says (lits ++ l ∷ []) atom said) (sym (get_or-set_other truths l.atom atom (Some l.positive) None (other_atom l.atom atom e))) (says_more lits l atom (get_or truths atom None) (λ same. other_atom l.atom atom e (sym same)) (shows.truth atom))
 
 -- one literal less
-pub shows_less : (lits : List Lit) (l : Lit) (truths : List (Option Bool)) → Shows (lits ++ l ∷ []) truths → l.atom < length truths → Shows lits (set truths l.atom None)
+pub shows_less : (lits : List Lit) (l : Lit) (truths : List (Option Bool)) → Shows (lits ++ l ∷ []) truths → l.atom < length truths
+    → Shows lits (set truths l.atom None)
 shows_less lits l truths shows less = record {
   once = subst (λ (n : ℕ). NamesOnce n lits) (sym (length-set truths l.atom None)) (once_front (length truths) lits (l ∷ []) shows.once);
   truth = λ atom. by atom (nat_eq l.atom atom) refl;
@@ -108,7 +110,8 @@ pub assume_view : (items more : List Assigned) (truths : List (Option Bool)) (va
 assume_view items more truths value a view e =
     ap (λ (n : ℕ). seen_as n (entries more)) (length-set truths a.lit.atom (Some a.lit.positive) ∙ ap (λ (v : View). v.atoms) view) ∙ ap (seen_as value.atoms) (ap entries e ∙ entries_push items a ∙ ap (λ (v : View). v.entries ++ record { lit = a.lit; by = a.by } ∷ []) view)
 
-pub retract_in_range : (items less : List Assigned) (truths : List (Option Bool)) (a : Assigned) → Shows (literals (entries items)) truths → items ≡ less ++ a ∷ [] → a.lit.atom < length truths
+pub retract_in_range : (items less : List Assigned) (truths : List (Option Bool)) (a : Assigned) → Shows (literals (entries items)) truths
+    → items ≡ less ++ a ∷ [] → a.lit.atom < length truths
 retract_in_range items less truths a shows e =
     last (length truths) (literals (entries less)) a.lit (subst (λ (ls : List Lit). NamesOnce (length truths) ls) (ap (λ (is : List Assigned). literals (entries is)) e ∙ lits_push less a) shows.once)
   where
@@ -116,7 +119,8 @@ retract_in_range items less truths a shows e =
     last n [] l once = once.0
     last n (x ∷ xs) l once = last n xs l once.2
 
-pub retract_law : (items less : List Assigned) (truths : List (Option Bool)) (a : Assigned) → Shows (literals (entries items)) truths → items ≡ less ++ a ∷ [] → Shows (literals (entries less)) (set truths a.lit.atom None)
+pub retract_law : (items less : List Assigned) (truths : List (Option Bool)) (a : Assigned) → Shows (literals (entries items)) truths
+    → items ≡ less ++ a ∷ [] → Shows (literals (entries less)) (set truths a.lit.atom None)
 retract_law items less truths a shows e =
     shows_less (literals (entries less)) a.lit truths (subst (λ (ls : List Lit). Shows ls truths) (ap (λ (is : List Assigned). literals (entries is)) e ∙ lits_push less a) shows) (retract_in_range items less truths a shows e)
 
@@ -191,5 +195,6 @@ pub value_law : (lits : List Lit) (l : Lit) (truth : Bool) → Says lits l.atom 
 value_law lits l truth has = gives_by lits l truth (beq truth l.positive) has (beq_true truth l.positive) (beq_false truth l.positive)
 
 -- the atoms below a number are named
-pub named_more : (lits : List Lit) (atom : ℕ) (truth : Bool) → ((k : ℕ) → k < atom → HasAtom k lits) → Says lits atom (Some truth) → (k : ℕ) → k < atom + 1 → HasAtom k lits
+pub named_more : (lits : List Lit) (atom : ℕ) (truth : Bool) → ((k : ℕ) → k < atom → HasAtom k lits) → Says lits atom (Some truth) → (k : ℕ)
+    → k < atom + 1 → HasAtom k lits
 named_more lits atom truth below has = below_more (λ k. HasAtom k lits) atom below (has_atom (record { atom = atom; positive = truth }) lits has)

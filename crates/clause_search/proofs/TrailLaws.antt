@@ -7,9 +7,10 @@ use Rattle.farkas_cert.specs.declared.certificates.Lemma.{Lemma}
 use Rattle.farkas_cert.specs.declared.literals.Lit.{Lit}
 use Rattle.clause_form.specs.Derivations.{Closes, EndsEmpty, Follow, NamesOnce, Rows}
 use Rattle.clause_form.specs.Journals.{Entry, IsOpenClause, IsSettled, literals}
+use Rattle.clause_form.specs.Theories.{HasSolution}
 use Rattle.clause_form.specs.WellFormed.{Below}
 use Rattle.learned_clause.specs.Trails.{DecidedAt, IsFounded, IsTrail, Stands, known_with}
-use Rattle.clause_search.specs.Courses.{AreOpenAtDecisions, clauses_of}
+use Rattle.clause_search.specs.Courses.{AreOpenAtDecisions, AreSolvedAtDecisions, clauses_of}
 use Rattle.clause_search.proofs.LiteralLaws.{once_below, settled_more}
 use Rattle.clause_search.proofs.TableLaws.{take_less}
 
@@ -25,10 +26,11 @@ get_within [] n x e = absurd (cc)
 get_within (y ∷ xs) zero x e = omega arith
 get_within (y ∷ xs) (suc n) x e = let rest : n < length xs = get_within xs n x e in omega arith
 
-same_some : {T : Type 0} (x y : T) → ◌≡◌ {A = Option T} (Some x) (Some y) → x ≡ y
+pub same_some : {T : Type 0} (x y : T) → ◌≡◌ {A = Option T} (Some x) (Some y) → x ≡ y
 same_some x y e = cc
 
-get_either : {T : Type 0} (xs : List T) (x : T) (n : ℕ) (y : T) → slice_get (xs ++ x ∷ []) n ≡ Some y → (slice_get xs n ≡ Some y) ⊎ ((n ≡ length xs) × (x ≡ y))
+pub get_either : {T : Type 0} (xs : List T) (x : T) (n : ℕ) (y : T) → slice_get (xs ++ x ∷ []) n ≡ Some y
+    → (slice_get xs n ≡ Some y) ⊎ ((n ≡ length xs) × (x ≡ y))
 get_either [] x zero y e = inr (refl, same_some x y e)
 get_either [] x (suc n) y e = absurd (cc)
 get_either (z ∷ xs) x zero y e = inl e
@@ -64,7 +66,8 @@ lits_take (x ∷ xs) (suc k) = ap (λ (ls : List Lit). x.lit ∷ ls) (lits_take 
 
 -- ---- one entry more
 
-pub trail_more : (atoms : ℕ) (known : List (List Lit)) (trail : List Entry) (e : Entry) → IsTrail atoms known trail → Stands atoms known (literals trail) e → length trail + 1 < 2 ^ 32 → IsTrail atoms known (trail ++ e ∷ [])
+pub trail_more : (atoms : ℕ) (known : List (List Lit)) (trail : List Entry) (e : Entry) → IsTrail atoms known trail
+    → Stands atoms known (literals trail) e → length trail + 1 < 2 ^ 32 → IsTrail atoms known (trail ++ e ∷ [])
 trail_more atoms known trail e is stands few = record {
   few = simp length-append few;
   stands = λ k f at. elim (get_either trail e k f at) [
@@ -75,12 +78,22 @@ trail_more atoms known trail e is stands few = record {
   ];
 }
 
-pub decisions_more : (lemmas : List (List Lit)) (trail : List Entry) (e : Entry) → AreOpenAtDecisions lemmas trail → (e.by ≡ None → IsSettled lemmas (literals trail)) → AreOpenAtDecisions lemmas (trail ++ e ∷ [])
+pub decisions_more : (lemmas : List (List Lit)) (trail : List Entry) (e : Entry) → AreOpenAtDecisions lemmas trail
+    → (e.by ≡ None → IsSettled lemmas (literals trail)) → AreOpenAtDecisions lemmas (trail ++ e ∷ [])
 decisions_more lemmas trail e opens last k decided = elim (get_either trail e k (record { lit = decided.0; by = None }) decided.1) [
   | inl before ↦ (let less : k < length trail = get_within trail k (record { lit = decided.0; by = None }) before in
       subst (λ (front : List Entry). IsSettled lemmas (literals front)) (sym (take-append-le k trail (e ∷ []) (omega arith))) (opens k (decided.0, before)))
   | inr at ↦
       subst (λ (front : List Entry). IsSettled lemmas (literals front)) (sym (ap (λ (n : ℕ). take n (trail ++ e ∷ [])) at.0 ∙ take_all trail (e ∷ []))) (last (ap (λ (g : Entry). g.by) at.1))
+]
+
+pub solved_more : (rows : Rows) (trail : List Entry) (e : Entry) → AreSolvedAtDecisions rows trail → (e.by ≡ None → HasSolution rows (literals trail))
+    → AreSolvedAtDecisions rows (trail ++ e ∷ [])
+solved_more rows trail e solved last k decided = elim (get_either trail e k (record { lit = decided.0; by = None }) decided.1) [
+  | inl before ↦ (let less : k < length trail = get_within trail k (record { lit = decided.0; by = None }) before in
+      subst (λ (front : List Entry). HasSolution rows (literals front)) (sym (take-append-le k trail (e ∷ []) (omega arith))) (solved k (decided.0, before)))
+  | inr at ↦
+      subst (λ (front : List Entry). HasSolution rows (literals front)) (sym (ap (λ (n : ℕ). take n (trail ++ e ∷ [])) at.0 ∙ take_all trail (e ∷ []))) (last (ap (λ (g : Entry). g.by) at.1))
 ]
 
 -- ---- a cut, with more clauses known
@@ -89,7 +102,8 @@ reason_more : (known more : List (List Lit)) (lits : List Lit) (l : Lit) (by : O
 reason_more known more lits l None f = tt
 reason_more known more lits l (Some n) f = (f.0, get_front known more n f.0 f.1, f.2, f.3)
 
-pub trail_cut : (atoms : ℕ) (known more : List (List Lit)) (trail : List Entry) (keep : ℕ) → keep ≤ length trail → IsTrail atoms known trail → IsTrail atoms (known ++ more) (take keep trail)
+pub trail_cut : (atoms : ℕ) (known more : List (List Lit)) (trail : List Entry) (keep : ℕ) → keep ≤ length trail → IsTrail atoms known trail
+    → IsTrail atoms (known ++ more) (take keep trail)
 trail_cut atoms known more trail keep short is = record {
   few = (let n : length (take keep trail) ≡ keep = length_take trail keep short in let few = is.few in omega arith);
   stands = λ k e at.
@@ -99,11 +113,18 @@ trail_cut atoms known more trail keep short is = record {
       subst (λ (front : List Entry). Stands atoms (known ++ more) (literals front) e) (sym (take_less trail k keep (omega arith))) (record { free = old.free; founded = reason_more known more (literals (take k trail)) e.lit e.by old.founded });
 }
 
-pub decisions_cut : (lemmas : List (List Lit)) (clause : List Lit) (trail : List Entry) (keep : ℕ) → AreOpenAtDecisions lemmas trail → ((k : ℕ) → k < keep → DecidedAt trail k → IsOpenClause (literals (take k trail)) clause) → AreOpenAtDecisions (lemmas ++ clause ∷ []) (take keep trail)
+pub decisions_cut : (lemmas : List (List Lit)) (clause : List Lit) (trail : List Entry) (keep : ℕ) → AreOpenAtDecisions lemmas trail
+    → ((k : ℕ) → k < keep → DecidedAt trail k → IsOpenClause (literals (take k trail)) clause) → AreOpenAtDecisions (lemmas ++ clause ∷ []) (take keep trail)
 decisions_cut lemmas clause trail keep opens before k decided =
     let both = get_take trail keep k (record { lit = decided.0; by = None }) decided.1 in
     let less : k < keep = both.0 in
     subst (λ (front : List Entry). IsSettled (lemmas ++ clause ∷ []) (literals front)) (sym (take_less trail k keep (omega arith))) (settled_more lemmas (literals (take k trail)) clause (opens k (decided.0, both.1)) (before k less (decided.0, both.1)))
+
+pub solved_cut : (rows : Rows) (trail : List Entry) (keep : ℕ) → AreSolvedAtDecisions rows trail → AreSolvedAtDecisions rows (take keep trail)
+solved_cut rows trail keep solved k decided =
+    let both = get_take trail keep k (record { lit = decided.0; by = None }) decided.1 in
+    let less : k < keep = both.0 in
+    subst (λ (front : List Entry). HasSolution rows (literals front)) (sym (take_less trail k keep (omega arith))) (solved k (decided.0, both.1))
 
 -- ---- lemmas
 
@@ -111,7 +132,8 @@ pub clauses_more : (lemmas : List Lemma) (lemma : Lemma) → clauses_of (lemmas 
 clauses_more [] lemma = refl
 clauses_more (x ∷ xs) lemma = ap (λ (ls : List (List Lit)). x.clause ∷ ls) (clauses_more xs lemma)
 
-pub known_more : (clauses : List (List Lit)) (lemmas : List Lemma) (lemma : Lemma) → known_with clauses (lemmas ++ lemma ∷ []) ≡ known_with clauses lemmas ++ lemma.clause ∷ []
+pub known_more : (clauses : List (List Lit)) (lemmas : List Lemma) (lemma : Lemma)
+    → known_with clauses (lemmas ++ lemma ∷ []) ≡ known_with clauses lemmas ++ lemma.clause ∷ []
 known_more clauses lemmas lemma = ap (λ (ls : List (List Lit)). clauses ++ ls) (clauses_more lemmas lemma) ∙ sym (append_assoc clauses (clauses_of lemmas) (lemma.clause ∷ []))
 
 abbrev lits_of : Derived → List Lit
@@ -125,12 +147,15 @@ derived_more : (lemmas : List Lemma) (lemma : Lemma) → map derived (lemmas ++ 
 derived_more [] lemma = refl
 derived_more (x ∷ xs) lemma = ap (λ (ds : List Derived). derived x ∷ ds) (derived_more xs lemma)
 
-follow_last : (c : Rows) (known : List (List Lit)) (ds : List Derived) (d : Derived) → Follow c known ds → NamesOnce (length c.atoms) d.lits → Closes c (known ++ map lits_of ds) d.tree (map negation d.lits) → Follow c known (ds ++ d ∷ [])
+follow_last : (c : Rows) (known : List (List Lit)) (ds : List Derived) (d : Derived) → Follow c known ds → NamesOnce (length c.atoms) d.lits
+    → Closes c (known ++ map lits_of ds) d.tree (map negation d.lits) → Follow c known (ds ++ d ∷ [])
 follow_last c known [] d f once closes = (once, subst (λ (ks : List (List Lit)). Closes c ks d.tree (map negation d.lits)) (append-nil known) closes, tt)
 follow_last c known (e ∷ ds) d f once closes =
     (f.0, f.1, follow_last c (known ++ e.lits ∷ []) ds d f.2 once (subst (λ (ks : List (List Lit)). Closes c ks d.tree (map negation d.lits)) (sym (append_assoc known (e.lits ∷ []) (map lits_of ds))) closes))
 
-pub follow_more : (c : Rows) (clauses : List (List Lit)) (lemmas : List Lemma) (lemma : Lemma) → Follow c clauses (map derived lemmas) → NamesOnce (length c.atoms) lemma.clause → Closes c (known_with clauses lemmas) (tree_of lemma.proof) (map negation lemma.clause) → Follow c clauses (map derived (lemmas ++ lemma ∷ []))
+pub follow_more : (c : Rows) (clauses : List (List Lit)) (lemmas : List Lemma) (lemma : Lemma) → Follow c clauses (map derived lemmas)
+    → NamesOnce (length c.atoms) lemma.clause → Closes c (known_with clauses lemmas) (tree_of lemma.proof) (map negation lemma.clause)
+    → Follow c clauses (map derived (lemmas ++ lemma ∷ []))
 follow_more c clauses lemmas lemma f once closes =
     subst (λ (ds : List Derived). Follow c clauses ds) (sym (derived_more lemmas lemma)) (follow_last c clauses (map derived lemmas) (derived lemma) f once (subst (λ (ks : List (List Lit)). Closes c (clauses ++ ks) (tree_of lemma.proof) (map negation lemma.clause)) (sym (derived_clauses lemmas)) closes))
 
@@ -144,7 +169,8 @@ ends_more lemmas lemma e = subst (λ (ds : List Derived). EndsEmpty ds) (sym (de
 
 -- ---- what is known is in range
 
-pub lemmas_below : (c : Rows) (known : List (List Lit)) (lemmas : List Lemma) → Follow c known (map derived lemmas) → (k : ℕ) (clause : List Lit) → slice_get (clauses_of lemmas) k ≡ Some clause → Below (length c.atoms) clause
+pub lemmas_below : (c : Rows) (known : List (List Lit)) (lemmas : List Lemma) → Follow c known (map derived lemmas) → (k : ℕ) (clause : List Lit)
+    → slice_get (clauses_of lemmas) k ≡ Some clause → Below (length c.atoms) clause
 lemmas_below c known [] f k clause e = absurd (cc)
 lemmas_below c known (x ∷ xs) f zero clause e = subst (λ (ls : List Lit). Below (length c.atoms) ls) (same_some x.clause clause e) (once_below (length c.atoms) x.clause f.0)
 lemmas_below c known (x ∷ xs) f (suc k) clause e = lemmas_below c (known ++ x.clause ∷ []) xs f.2 k clause e
@@ -154,7 +180,9 @@ get_parts [] ys k x e = inr (k, e)
 get_parts (y ∷ xs) ys zero x e = inl e
 get_parts (y ∷ xs) ys (suc k) x e = elim (get_parts xs ys k x e) [ inl a ↦ inl a | inr b ↦ inr b ]
 
-pub known_below : (c : Rows) (clauses : List (List Lit)) (lemmas : List Lemma) → ((k : ℕ) (clause : List Lit) → slice_get clauses k ≡ Some clause → Below (length c.atoms) clause) → Follow c clauses (map derived lemmas) → (k : ℕ) (clause : List Lit) → slice_get (known_with clauses lemmas) k ≡ Some clause → Below (length c.atoms) clause
+pub known_below : (c : Rows) (clauses : List (List Lit)) (lemmas : List Lemma)
+    → ((k : ℕ) (clause : List Lit) → slice_get clauses k ≡ Some clause → Below (length c.atoms) clause) → Follow c clauses (map derived lemmas)
+    → (k : ℕ) (clause : List Lit) → slice_get (known_with clauses lemmas) k ≡ Some clause → Below (length c.atoms) clause
 known_below c clauses lemmas formed f k clause e = elim (get_parts clauses (clauses_of lemmas) k clause e) [
   | inl first ↦ formed k clause first
   | inr later ↦ lemmas_below c clauses lemmas f later.0 clause later.1

@@ -17,6 +17,7 @@ use Rattle.clause_form.specs.WellFormed.{IsWellFormed}
 use Rattle.learned_clause.specs.LightTrees.{IsLight}
 use Rattle.clause_search.specs.declared.found.Found.{Found}
 use Rattle.clause_search.specs.declared.found.Found.TheVariants as found
+use Rattle.clause_search.specs.Lessons.{IsOpenLearning, ReachesLearning, SticksLearning}
 
 -- the same relations, with this state as the only opening
 abbrev pub starting_at : {S : Type 0} → S → Relations S → Relations S
@@ -55,10 +56,11 @@ AreLight rows [] = Unit {0}
 AreLight rows (lemma ∷ lemmas) = IsLight rows 4096 (tree_of lemma.proof) × AreLight rows lemmas
 
 module _ {S : Type 0} (R : Relations S) (c : Clauses) where
-  -- the moves reach a place with the literals told and the state of the theory
+  -- the moves reach a place with the literals told and the state of the theory, and each conflict among them learns
   pub record IsReached (moves : List Move) (seen : Seen S) : Type 0 where
     pub place : Place S
     pub reached : Reaches R c moves place
+    pub learned : ReachesLearning R c moves place
     pub state : place.state ≡ seen.state
     pub trail : literals place.trail ≡ seen.told
 
@@ -84,12 +86,14 @@ module _ {S : Type 0} (R : Relations S) (c : Clauses) where
   -- the budget is spent, and a further charged move may be made
   pub record IsSpent (n : Counts) (moves : List Move) : Type 0 where
     pub goes_on : IsOpen R c moves
+    pub learned : IsOpenLearning R c moves
     pub all : how_many (is_charged R c) moves ≡ n.limit
     pub tally : IsTally moves n
 
   -- an operation passed, in the last move or at the place reached
   pub record IsStuck (n : Counts) (stuck : Stuck) (moves : List Move) : Type 0 where
     pub sticks : Sticks R c moves stuck
+    pub learned : SticksLearning R c moves stuck
     pub tally : IsTally moves n
 
   -- what an answer says of the theory and the counts that it leaves

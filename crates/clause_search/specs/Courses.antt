@@ -1,5 +1,5 @@
 -- What holds of a search at each step: its moves are legal and lead to its trail, lemmas and theory.
-use Rattle.std.specs.Prelude.{◌≡◌, ℕ, ◌+◌, ◌-◌, ◌*◌, ◌≤◌, ◌<◌, ◌^◌, true, false, ◌⊎◌, List, map, take, length, Option, None, Some}
+use Rattle.std.specs.Prelude.{◌≡◌, ℕ, ◌+◌, ◌-◌, ◌*◌, ◌≤◌, ◌<◌, ◌^◌, true, false, ◌⊎◌, List, [], ◌∷◌, ◌++◌, map, take, length, Option, None, Some}
 use Rattle.whole.specs.Budget.{Counts, spent}
 use Rattle.farkas_cert.specs.Trees.{derived}
 use Rattle.farkas_cert.specs.declared.certificates.Lemma.{Lemma}
@@ -8,15 +8,17 @@ use Rattle.farkas_cert.specs.declared.journals.Move.TheVariants.{Decide, Propaga
 use Rattle.farkas_cert.specs.declared.literals.Lit.{Lit}
 use Rattle.farkas_cert.specs.declared.trees.Part.{Part}
 use Rattle.clause_form.specs.declared.clauses.Clauses.{Clauses}
-use Rattle.clause_form.specs.Derivations.{Follow, HasAtom, IsContradiction, NamesOnce, SumsFit, rows_of}
-use Rattle.clause_form.specs.Journals.{Entry, IsSettled, Last, MayMove, Place, Reaches, cut, literal, literals, nothing}
+use Rattle.clause_form.specs.Derivations.{Follow, HasAtom, IsContradiction, NamesOnce, Rows, SumsFit, rows_of}
+use Rattle.clause_form.specs.Journals.{Entry, IsSettled, Last, Place, cut, literal, literals, nothing}
 use Rattle.clause_form.specs.Theories.{HasSolution, Relations, Seen, works}
 use Rattle.clause_form.specs.WellFormed.{IsWellFormed}
+use Rattle.learned_clause.specs.Learning.{IsUnitOn}
 use Rattle.learned_clause.specs.Trails.{DecidedAt, IsTrail, known_with}
 use Rattle.clause_search.specs.declared.course.Course.{Course}
 use Rattle.clause_search.specs.declared.course.Phase.{Phase}
 use Rattle.clause_search.specs.declared.course.Phase.TheVariants.{Told, Checked, Cut}
 use Rattle.clause_search.specs.Answers.{AreLight, IsTally, starting_at}
+use Rattle.clause_search.specs.Lessons.{MayLearn, ReachesLearning}
 use Rattle.clause_search.specs.Tables.{View}
 
 abbrev pub clauses_of : List Lemma → List (List Lit)
@@ -25,9 +27,21 @@ clauses_of lemmas = map (λ lemma. lemma.clause) lemmas
 abbrev pub place : {S : Type 0} → List Entry → List Lemma → S → Last → Place S
 place trail lemmas s last = record { trail = trail; lemmas = clauses_of lemmas; state = s; last = last }
 
--- where a decision stands, each lemma of now is neither false nor unit on the trail before it
+-- where a decision stands, each clause known now is neither false nor unit on the trail before it
 abbrev pub AreOpenAtDecisions : List (List Lit) → List Entry → Type 0
-AreOpenAtDecisions lemmas trail = (k : ℕ) → DecidedAt trail k → IsSettled lemmas (literals (take k trail))
+AreOpenAtDecisions known trail = (k : ℕ) → DecidedAt trail k → IsSettled known (literals (take k trail))
+
+-- and the literals before it have a common solution
+abbrev pub AreSolvedAtDecisions : Rows → List Entry → Type 0
+AreSolvedAtDecisions rows trail = (k : ℕ) → DecidedAt trail k → HasSolution rows (literals (take k trail))
+
+-- the last clause known is unit, and no other is false or unit
+pub record IsTaught (known : List (List Lit)) (lits : List Lit) : Type 0 where
+  pub before : List (List Lit)
+  pub lemma : List Lit
+  pub is : known ≡ before ++ lemma ∷ []
+  pub settled : IsSettled before lits
+  pub single : IsUnitOn lits lemma
 
 abbrev pub move_of : Lit → Option ℕ → Move
 move_of l None = Decide l
@@ -49,13 +63,14 @@ work_left course n = work_at_clash course n + weight course.phase
 module _ {S : Type 0} (R : Relations S) (c : Clauses) (s : S) where
   pub record IsUnderway (trail : List Entry) (lemmas : List Lemma) (moves : List Move) (last : Last) (seen : Seen S) (n : Counts) : Type 0 where
     pub formed : IsWellFormed c
-    pub legal : Reaches (starting_at s R) c moves (place trail lemmas seen.state last)
+    pub legal : ReachesLearning (starting_at s R) c moves (place trail lemmas seen.state last)
     pub told : seen.told ≡ literals trail
     pub rows : seen.rows ≡ rows_of c
     pub at_work : seen.rest ≡ works
     pub once : NamesOnce (length c.atoms) (literals trail)
     pub stands : IsTrail (length c.atoms) (known_with c.clauses lemmas) trail
-    pub founded : AreOpenAtDecisions (clauses_of lemmas) trail
+    pub founded : AreOpenAtDecisions (known_with c.clauses lemmas) trail
+    pub solved : AreSolvedAtDecisions (rows_of c) trail
     pub follow : Follow (rows_of c) c.clauses (map derived lemmas)
     pub light : AreLight (rows_of c) lemmas
     pub tally : IsTally moves n
@@ -63,14 +78,15 @@ module _ {S : Type 0} (R : Relations S) (c : Clauses) (s : S) where
     pub room : length lemmas + length trail ≤ spent n
     pub limit : n.limit ≤ 2 ^ 31
 
-  -- a literal was told and no check followed, or nothing happened yet; a check answered Fine; or the trail was cut
+  -- a literal was told and no check followed, or nothing happened yet; a check answered Fine; or the trail was cut, and the lemma is
+  -- unit
   abbrev pub IsInPhase : List Entry → List Lemma → Last → Seen S → Phase → Type 0
   IsInPhase trail lemmas last seen Told =
       (seen.owes ≡ false) × (R.contradicts seen.state → ⊥) × ((last ≡ literal) ⊎ ((last ≡ nothing) × (R.violated seen.state → ⊥)))
   IsInPhase trail lemmas last seen Checked =
-      (seen.owes ≡ false) × (R.contradicts seen.state → ⊥) × (R.violated seen.state → ⊥) × (seen.fine ≡ true) × HasSolution seen.rows seen.told
+      (seen.owes ≡ false) × (R.contradicts seen.state → ⊥) × (R.violated seen.state → ⊥) × (seen.fine ≡ true) × HasSolution seen.rows seen.told × (last ≡ cut → ⊥)
   IsInPhase trail lemmas last seen Cut =
-      (seen.owes ≡ false) × (last ≡ cut) × (IsSettled (known_with c.clauses lemmas) (literals trail) → ⊥)
+      (seen.owes ≡ false) × (last ≡ cut) × IsTaught (known_with c.clauses lemmas) (literals trail)
 
   pub record IsStage (view : View) (lemmas : List Lemma) (moves : List Move) (phase : Phase) (seen : Seen S) (n : Counts) : Type 0 where
     pub last : Last
@@ -78,7 +94,7 @@ module _ {S : Type 0} (R : Relations S) (c : Clauses) (s : S) where
     pub underway : IsUnderway view.entries lemmas moves last seen n
     pub in_phase : IsInPhase view.entries lemmas last seen phase
 
-  -- the rows of the trail contradict
+  -- the rows of the trail contradict, which the theory found straight after a literal or a pivot
   pub record IsClash (view : View) (lemmas : List Lemma) (moves : List Move) (seen : Seen S) (n : Counts) (parts : List Part) : Type 0 where
     pub last : Last
     pub atoms : view.atoms ≡ length c.atoms
@@ -86,14 +102,17 @@ module _ {S : Type 0} (R : Relations S) (c : Clauses) (s : S) where
     pub few : length parts ≤ 2049
     pub contradiction : IsContradiction (rows_of c) (literals view.entries) parts
     pub fits : SumsFit (rows_of c) parts
+    pub clash : R.clash seen.state (map (λ p. p.lit) parts)
+    pub moved : last ≡ cut → ⊥
 
-  -- the literal may be put on the trail
+  -- the literal may be put on the trail, whose literals have a common solution where it is decided
   pub record IsLegal (view : View) (lemmas : List Lemma) (moves : List Move) (seen : Seen S) (n : Counts) (l : Lit) (by : Option ℕ) : Type 0 where
     pub last : Last
     pub atoms : view.atoms ≡ length c.atoms
     pub underway : IsUnderway view.entries lemmas moves last seen n
     pub paid : seen.owes ≡ false
-    pub may : MayMove (starting_at s R) c (place view.entries lemmas seen.state last) (move_of l by)
+    pub may : MayLearn (starting_at s R) c (place view.entries lemmas seen.state last) (move_of l by)
+    pub solved : by ≡ None → HasSolution (rows_of c) (literals view.entries)
 
   -- the search stands at this course
   abbrev pub IsAt : Course → Seen S → Counts → Type 0

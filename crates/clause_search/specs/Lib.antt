@@ -1,7 +1,9 @@
 pub mod Answers
 pub mod Courses
+pub mod Lessons
 pub mod Opened
 pub mod Standings
+pub mod Starts
 pub mod Steps
 pub mod Tables
 pub mod Examples

@@ -1,12 +1,11 @@
 -- What the parts of a course are after they are made or changed.
-use Rattle.std.specs.Prelude.{◌≡◌, ℕ, ◌<◌, [], ◌∷◌, ◌++◌, take, length, Option, None, Some}
+use Rattle.std.specs.Prelude.{◌≡◌, ℕ, [], ◌∷◌, ◌++◌, take, length, Option, None, Some}
 use Rattle.whole.specs.declared.budget.Charge.{Charge}
 use Rattle.whole.specs.declared.budget.Charge.TheVariants.{Decision, Propagation}
 use Rattle.farkas_cert.specs.declared.certificates.Lemma.{Lemma}
 use Rattle.farkas_cert.specs.declared.journals.Move.TheVariants.{Conflict}
 use Rattle.farkas_cert.specs.declared.literals.Lit.{Lit}
 use Rattle.clause_form.specs.declared.clauses.Clauses.{Clauses}
-use Rattle.clause_form.specs.Derivations.{HasAtom}
 use Rattle.clause_form.specs.Journals.{literals}
 use Rattle.clause_search.specs.declared.course.Course.{Course}
 use Rattle.clause_search.specs.declared.course.Phase.TheVariants.{Told, Cut}
@@ -14,7 +13,6 @@ use Rattle.clause_search.specs.declared.found.Found.{Found}
 use Rattle.clause_search.specs.declared.found.Found.TheVariants as found
 use Rattle.clause_search.specs.Answers.{IsAssignment}
 use Rattle.clause_search.specs.Courses.{move_of}
-use Rattle.clause_search.specs.Tables.{View}
 
 -- the charge of a literal
 abbrev pub charge_of : Option ℕ → Charge
@@ -41,10 +39,6 @@ pub record Cutting (old : Course) (lemma : Lemma) (keep : ℕ) (new : Course) : 
   pub lemmas : new.lemmas ≡ old.lemmas ++ lemma ∷ []
   pub moves : new.journal.moves ≡ old.journal.moves ++ Conflict lemma.clause keep ∷ []
   pub phase : new.phase ≡ Cut
-
--- each atom is on the trail
-abbrev pub HasAllAtoms : View → Type 0
-HasAllAtoms view = (atom : ℕ) → atom < view.atoms → HasAtom atom (literals view.entries)
 
 -- the trail's truths and the journal
 abbrev pub IsOfCourse : Course → Found → Type 0

@@ -8,8 +8,8 @@ use Rattle.farkas_cert.specs.declared.literals.Lit.{Lit}
 use Rattle.clause_form.specs.declared.clauses.Clauses.{Clauses}
 use Rattle.clause_form.specs.declared.theory.Heard.{Heard}
 use Rattle.clause_form.specs.declared.theory.Heard.TheVariants as heard
-use Rattle.clause_form.specs.Derivations.{EndsEmpty, Follow, HasAtom, rows_of}
-use Rattle.clause_form.specs.Journals.{Entry, IsSettled, Last, literals}
+use Rattle.clause_form.specs.Derivations.{EndsEmpty, Follow, rows_of}
+use Rattle.clause_form.specs.Journals.{IsFree, IsSettled, Last, cut, literals}
 use Rattle.clause_form.specs.Theories.{Relations, Seen}
 use Rattle.learned_clause.specs.Learning.{CutsTo, IsLearnedFrom}
 use Rattle.learned_clause.specs.Trails.{known_with}
@@ -20,13 +20,10 @@ use Rattle.clause_search.specs.declared.course.Phase.TheVariants.{Told, Checked}
 use Rattle.clause_search.specs.declared.step.Step.{Step}
 use Rattle.clause_search.specs.declared.step.Step.TheVariants as step
 use Rattle.clause_search.specs.Answers.{AreLight, IsSpent, IsStuck, starting_at}
-use Rattle.clause_search.specs.Courses.{IsAt, IsAtClash, IsUnderway, work_at_clash, work_left}
+use Rattle.clause_search.specs.Courses.{IsAt, IsAtClash, IsUnderway, place, work_at_clash, work_left}
+use Rattle.clause_search.specs.Lessons.{IsLesson}
 use Rattle.clause_search.specs.Standings.{Follows, IfWanted, IsFalseAt}
-use Rattle.clause_search.specs.Tables.{View}
-
--- each atom is on the trail
-abbrev pub IsWhole : Clauses → List Entry → Type 0
-IsWhole c trail = (atom : ℕ) → atom < length c.atoms → HasAtom atom (literals trail)
+use Rattle.clause_search.specs.Tables.{NameAll, View}
 
 -- what was asked leaves less work
 abbrev pub LeavesLess : ℕ → Course → Counts → Heard → Type 0
@@ -62,7 +59,7 @@ module _ {S : Type 0} (R : Relations S) (c : Clauses) (s : S) where
     pub at : IsAt R c s course seen n
     pub checked : course.phase ≡ Checked
     pub settled : IsSettled (known_with c.clauses course.lemmas) (literals course.trail.entries)
-    pub whole : IsWhole c course.trail.entries
+    pub whole : NameAll (length c.atoms) (literals course.trail.entries)
 
   -- nothing is to be checked first
   abbrev pub IsAdvancing : Course → Seen S → Counts → Type 0
@@ -78,13 +75,15 @@ module _ {S : Type 0} (R : Relations S) (c : Clauses) (s : S) where
       IsAdvancing course seen n × IsSettled (known_with c.clauses course.lemmas) (literals course.trail.entries)
       × IfWanted (known_with c.clauses course.lemmas) (literals course.trail.entries) wish
 
-  -- the lemma follows, and a cut to this length makes it unit
+  -- the lemma is the learned clause of a start, and a cut to this length makes it unit
   pub record IsCutting (view : View) (lemmas : List Lemma) (moves : List Move) (seen : Seen S) (n : Counts) (lemma : Lemma) (keep : ℕ) : Type 0 where
     pub last : Last
     pub atoms : view.atoms ≡ length c.atoms
     pub underway : IsUnderway R c s view.entries lemmas moves last seen n
     pub learned : IsLearnedFrom (rows_of c) (known_with c.clauses lemmas) view.entries lemma.clause (tree_of lemma.proof) keep
     pub cuts : CutsTo view.entries lemma.clause keep
+    pub moved : last ≡ cut → ⊥
+    pub lesson : IsLesson (starting_at s R) c (place view.entries lemmas seen.state last) lemma.clause keep
 
   abbrev pub IsJump : Course → Seen S → Counts → Lemma → ℕ → Type 0
   IsJump course seen n lemma keep = IsCutting course.trail course.lemmas course.journal.moves seen n lemma keep
@@ -116,9 +115,9 @@ Refutes old lemma new step.NoMemory = Unit {0}
 -- the atom is in range and off the trail
 abbrev pub IfFree : View → Option Lit → Type 0
 IfFree view None = Unit {0}
-IfFree view (Some l) = (l.atom < view.atoms) × (HasAtom l.atom (literals view.entries) → ⊥)
+IfFree view (Some l) = IsFree view.atoms (literals view.entries) l
 
 -- the literal's atom is in range and off the trail; there is none only where the trail has each atom
 abbrev pub Chooses : View → Option Lit → Type 0
-Chooses view None = (atom : ℕ) → atom < view.atoms → HasAtom atom (literals view.entries)
-Chooses view (Some l) = (l.atom < view.atoms) × (HasAtom l.atom (literals view.entries) → ⊥)
+Chooses view None = NameAll view.atoms (literals view.entries)
+Chooses view (Some l) = IsFree view.atoms (literals view.entries) l

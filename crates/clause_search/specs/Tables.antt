@@ -1,5 +1,5 @@
 -- A trail as contracts see it, and what its literals say of an atom or a literal.
-use Rattle.std.specs.Prelude.{ℕ, Bool, true, false, List, length, Option, None, Some, slice_index_or}
+use Rattle.std.specs.Prelude.{ℕ, ◌<◌, Bool, true, false, List, length, Option, None, Some, slice_index_or}
 use Rattle.farkas_cert.specs.Literals.{negation}
 use Rattle.farkas_cert.specs.declared.literals.Lit.{Lit}
 use Rattle.clause_form.specs.Derivations.{Has, HasAtom, NamesOnce}
@@ -9,6 +9,10 @@ use Rattle.clause_form.specs.Journals.{Entry}
 pub record View : Type 0 where
   pub atoms : ℕ
   pub entries : List Entry
+
+-- the literals name each of this many atoms
+abbrev pub NameAll : ℕ → List Lit → Type 0
+NameAll atoms lits = (atom : ℕ) → atom < atoms → HasAtom atom lits
 
 -- the truth that the literals give an atom, if they name it
 abbrev pub Says : List Lit → ℕ → Option Bool → Type 0

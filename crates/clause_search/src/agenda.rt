@@ -1,5 +1,5 @@
 // Which clauses to look at next.
-ghost use Rattle.std.specs.Prelude.{◌≡◌, ◌<◌, ◌^◌, length, IfOk, IfSome, OnSome, vec_len};
+ghost use Rattle.std.specs.Prelude.{◌≡◌, ◌<◌, ◌^◌, length, IfOk, IfSome, vec_len};
 ghost use Rattle.clause_form.specs.Journals.{literals};
 ghost use Rattle.clause_form.specs.WellFormed.{IsWellFormed};
 ghost use Rattle.learned_clause.specs.Trails.{known_with};
@@ -12,6 +12,7 @@ use clause_form::{Atom, Clauses};
 use farkas_cert::{Lemma, Lit};
 use learned_clause::Assigned;
 use std::alloc::Global;
+use std::collections::BinaryHeap;
 use whole::NoMemory;
 
 /// A clause that gives a literal.
@@ -19,6 +20,20 @@ use whole::NoMemory;
 pub(crate) struct Reason {
     pub(crate) lit: Lit,
     pub(crate) by: u32,
+}
+
+/// A clause that waits to give its literal. The greatest comes first.
+///
+/// After a decision that is the one with the least number. Before any, the short rows come first,
+/// since each pivot then changes little: the negated requirement, which is the last clause of the
+/// problem, and else a name, a column, and the forms by their number of terms, the later clause
+/// first.
+#[derive(Clone, Copy, Debug, PartialEq, Eq, PartialOrd, Ord)]
+struct Waiting {
+    is_requirement: bool,
+    shortness: u32,
+    turn: u32,
+    by: u32,
 }
 
 /// The clauses that a move may have made false or unit. A clause changes so only when one of its
@@ -32,8 +47,8 @@ pub(crate) struct Agenda {
     occurrences: Vec<Vec<u32>>,
     /// The clauses of which a literal became false and that weren't looked at since.
     fresh: Vec<u32>,
-    /// The literals that clauses gave when they were looked at.
-    units: Vec<Reason>,
+    /// The clauses that gave a literal when they were looked at.
+    units: BinaryHeap<Waiting>,
     /// No decision is on the trail.
     at_root: bool,
 }
@@ -46,7 +61,7 @@ impl Agenda {
         let mut agenda = Agenda {
             occurrences: Vec::new(alloc),
             fresh: Vec::new(alloc),
-            units: Vec::new(alloc),
+            units: BinaryHeap::new(alloc),
             at_root: true,
         };
         for _literal in 0..2 * clauses.atoms.len() {
@@ -103,24 +118,22 @@ impl Agenda {
         trail: &Trail,
     ) -> Result<Option<u32>, NoMemory>
         requires { length (known_with clauses.now.clauses lemmas.now) < 2 ^ 32 }
-        ensures { IfOk result (λ found. IfSome found (λ number. IsFalseAt (known_with clauses.now.clauses lemmas.now) (literals trail.now.entries) number)) }
+        ensures found { IfOk result (λ found. IfSome found (λ number. IsFalseAt (known_with clauses.now.clauses lemmas.now) (literals trail.now.entries) number)) }
+        ensures less { IfOk result (λ found. IfSome found (λ number. vec_len self.new.fresh < vec_len self.old.fresh)) }
     {
         while let Some(number) = self.fresh.pop() {
             match standing_if(clauses, lemmas, trail, number) {
                 Some(Standing::False) => return Ok(Some(number)),
-                Some(Standing::Unit(lit)) => self.units.push(Reason { lit, by: number })?,
+                Some(Standing::Unit(lit)) => self
+                    .units
+                    .push(place_of(clauses, self.at_root, lit, number))?,
                 _ => {}
             }
         }
         Ok(None)
     }
 
-    /// The first clause on the agenda that still gives a literal.
-    ///
-    /// After a decision that is the one with the least number. Before any, the short rows come first,
-    /// since each pivot then changes little: the negated requirement, which is the last clause of the
-    /// problem, and else a name, a column, and the forms by their number of terms, the later clause
-    /// first.
+    /// The first of the waiting clauses that still gives a literal.
     pub(crate) fn next_unit(
         &mut self,
         clauses: &Clauses,
@@ -130,37 +143,15 @@ impl Agenda {
         requires { length (known_with clauses.now.clauses lemmas.now) < 2 ^ 32 }
         ensures { IfSome result (λ reason. Follows (known_with clauses.now.clauses lemmas.now) (literals trail.now.entries) reason.lit reason.by) }
     {
-        while let Some(reason) = self.take_first(clauses) {
-            if let Some(Standing::Unit(lit)) = standing_if(clauses, lemmas, trail, reason.by) {
-                return Some(Reason { lit, by: reason.by });
+        while let Some(waiting) = self.units.pop() {
+            if let Some(Standing::Unit(lit)) = standing_if(clauses, lemmas, trail, waiting.by) {
+                return Some(Reason {
+                    lit,
+                    by: waiting.by,
+                });
             }
         }
         None
-    }
-
-    // Takes out the reason that comes first.
-    fn take_first(&mut self, clauses: &Clauses) -> Option<Reason>
-        ensures { OnSome result (vec_len self.new.units < vec_len self.old.units) }
-    {
-        let units = self.units.as_slice();
-        let no_lemma = units
-            .iter()
-            .all(|reason| (reason.by as usize) < clauses.clauses.len());
-        let mut first = 0;
-        for (i, reason) in units.iter().enumerate() {
-            let comes_first = match units.get(first) {
-                Some(best) => comes_before(clauses, self.at_root, no_lemma, *reason, *best),
-                None => true,
-            };
-            if comes_first {
-                first = i;
-            }
-        }
-        if first < self.units.len() {
-            Some(self.units.swap_remove(first))
-        } else {
-            None
-        }
     }
 }
 
@@ -176,35 +167,27 @@ fn standing_if(clauses: &Clauses, lemmas: &[Lemma], trail: &Trail, number: u32) 
     }
 }
 
-// Whether the first of two reasons comes before the other.
-fn comes_before(
-    clauses: &Clauses,
-    at_root: bool,
-    no_lemma: bool,
-    reason: Reason,
-    other: Reason,
-) -> bool {
-    if !at_root {
-        return reason.by < other.by;
+// Where a clause that gives this literal stands among those that wait.
+fn place_of(clauses: &Clauses, at_root: bool, lit: Lit, by: u32) -> Waiting {
+    if at_root {
+        Waiting {
+            is_requirement: by as usize + 1 == clauses.clauses.len(),
+            shortness: u32::MAX - terms(clauses, lit),
+            turn: by,
+            by,
+        }
+    } else {
+        Waiting {
+            is_requirement: false,
+            shortness: 0,
+            turn: u32::MAX - by,
+            by,
+        }
     }
-    if no_lemma && is_last(clauses, reason) {
-        return true;
-    }
-    if no_lemma && is_last(clauses, other) {
-        return false;
-    }
-    let mine = terms(clauses, reason.lit);
-    let others = terms(clauses, other.lit);
-    mine < others || (mine == others && reason.by > other.by)
-}
-
-// The clause is the problem's last.
-fn is_last(clauses: &Clauses, reason: Reason) -> bool {
-    reason.by as usize + 1 == clauses.clauses.len()
 }
 
 // How many terms the row of a literal has: none for a named literal.
-fn terms(clauses: &Clauses, lit: Lit) -> usize {
+fn terms(clauses: &Clauses, lit: Lit) -> u32 {
     match clauses.atoms.get(lit.atom as usize) {
         Some(Atom::Row { form, .. }) => terms_of(clauses, *form),
         _ => 0,
@@ -212,12 +195,12 @@ fn terms(clauses: &Clauses, lit: Lit) -> usize {
 }
 
 // How many terms a form has, of which those below the number of columns are a column each.
-fn terms_of(clauses: &Clauses, form: u32) -> usize {
+fn terms_of(clauses: &Clauses, form: u32) -> u32 {
     if form < clauses.columns {
         return 1;
     }
     match clauses.forms.get((form - clauses.columns) as usize) {
-        Some(form) => form.terms.as_slice().len(),
+        Some(form) => u32::try_from(form.terms.as_slice().len()).unwrap_or(u32::MAX),
         None => 1,
     }
 }

@@ -6,11 +6,12 @@ ghost use Rattle.clause_search.specs.Courses.{work_at_clash};
 ghost use Rattle.clause_search.specs.Steps.{IsConflict, IsJump, MayJump, Refutes, Steps};
 
 use crate::course::Course;
+use crate::lessons::best_lesson;
 use crate::step::Step;
 use crate::survey::how_many;
 use clause_form::{Clauses, Theory};
 use farkas_cert::Lemma;
-use learned_clause::{Learned, Start, learn};
+use learned_clause::{Learned, Start};
 use std::alloc::Global;
 use whole::{Budget, NoMemory};
 
@@ -29,11 +30,12 @@ pub(crate) fn conflict<T: Theory>(
     ensures rows { (T.seen theory.new).rows ≡ (T.seen theory.old).rows }
     ensures limit { budget.new.limit ≡ budget.old.limit }
 {
-    match learn(
+    match best_lesson(
         alloc,
         clauses,
         course.lemmas.as_slice(),
-        course.trail.as_slice(),
+        &course.trail,
+        &mut course.agenda,
         start,
     ) {
         Ok(

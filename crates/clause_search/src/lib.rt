@@ -10,6 +10,7 @@ mod asking;
 mod conflict;
 mod course;
 mod found;
+mod lessons;
 #[cfg(test)]
 mod names;
 mod searching;

@@ -3,7 +3,9 @@ ghost use Rattle.std.specs.Prelude.{◌≡◌, length};
 ghost use Rattle.whole.specs.Budget.{counts};
 ghost use Rattle.clause_form.specs.WellFormed.{IsWellFormed};
 ghost use Rattle.clause_search.specs.Answers.{Finds, IsStart, starting_at};
-ghost use Rattle.clause_search.specs.Opened.{HasAllAtoms, IsOfCourse};
+ghost use Rattle.clause_form.specs.Journals.{literals};
+ghost use Rattle.clause_search.specs.Opened.{IsOfCourse};
+ghost use Rattle.clause_search.specs.Tables.{NameAll};
 
 use crate::course::Course;
 use crate::found::Found;
@@ -47,7 +49,7 @@ pub fn search<T: Theory>(
 
 // The truths of a trail that has each atom.
 fn total(alloc: Global, course: Course) -> Found
-    requires { HasAllAtoms course.trail }
+    requires { NameAll course.trail.atoms (literals course.trail.entries) }
     ensures { IsOfCourse course result }
 {
     match course.trail.assignment(alloc) {

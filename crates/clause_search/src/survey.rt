@@ -1,5 +1,5 @@
 // A look at all clauses that are known: is one false or unit?
-ghost use Rattle.std.specs.Prelude.{◌≡◌, ◌<◌, ◌^◌, length, slice_get};
+ghost use Rattle.std.specs.Prelude.{◌≡◌, ◌<◌, ◌^◌, length};
 ghost use Rattle.clause_form.specs.Derivations.{NamesOnce};
 ghost use Rattle.clause_form.specs.Journals.{literals};
 ghost use Rattle.learned_clause.specs.Trails.{known_with};
@@ -9,6 +9,7 @@ use crate::standing::{Standing, judge};
 use crate::trail::Trail;
 use clause_form::Clauses;
 use farkas_cert::{Lemma, Lit};
+use learned_clause::known;
 
 /// What a look at all clauses shows.
 #[derive(Clone, Copy, Debug)]
@@ -59,20 +60,6 @@ pub(crate) fn standing_of(
     ensures { StandsAt (known_with clauses.now.clauses lemmas.now) (literals trail.now.entries) number result }
 {
     judge(trail, known(clauses, lemmas, number))
-}
-
-// The clause with this number: the problem's are counted first, and then the lemmas.
-fn known<'a>(clauses: &'a Clauses, lemmas: &'a [Lemma], number: u32) -> &'a [Lit]
-    requires { number < length (known_with clauses.now.clauses lemmas.now) }
-    ensures { slice_get (known_with clauses.now.clauses lemmas.now) number ≡ Some result.now }
-{
-    let first = clauses.clauses.len();
-    let number = number as usize;
-    if number < first {
-        clauses.clauses.as_slice()[number].as_slice()
-    } else {
-        lemmas[number - first].clause.as_slice()
-    }
 }
 
 fn earlier(wish: Option<Lit>, lit: Lit) -> Option<Lit>

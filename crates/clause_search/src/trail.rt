@@ -4,7 +4,7 @@ ghost use Rattle.clause_form.specs.Derivations.{HasAtom};
 ghost use Rattle.clause_form.specs.Journals.{literals};
 ghost use Rattle.learned_clause.specs.Trails.{entries as entries_of};
 ghost use Rattle.clause_search.specs.Answers.{IsAssignment};
-ghost use Rattle.clause_search.specs.Tables.{Gives, Says, is_true_at};
+ghost use Rattle.clause_search.specs.Tables.{Gives, NameAll, Says, is_true_at};
 
 use farkas_cert::Lit;
 use learned_clause::Assigned;
@@ -77,7 +77,7 @@ impl Trail {
     /// The least atom off the trail.
     pub(crate) fn first_free(&self) -> Option<u32>
         requires { self.now.atoms ≤ 4096 }
-        ensures { MatchOption result ((atom : ℕ) → atom < self.now.atoms → HasAtom atom (literals self.now.entries))
+        ensures { MatchOption result (NameAll self.now.atoms (literals self.now.entries))
             (λ atom. (atom < self.now.atoms) × (HasAtom atom (literals self.now.entries) → ⊥)) }
     {
         for atom in 0..self.atoms() {
@@ -98,7 +98,7 @@ impl Trail {
 
     /// The truth of each atom, where the trail names them all.
     pub(crate) fn assignment(&self, alloc: Global) -> Result<Items<bool>, NoMemory>
-        requires { (atom : ℕ) → atom < self.now.atoms → HasAtom atom (literals self.now.entries) }
+        requires { NameAll self.now.atoms (literals self.now.entries) }
         ensures { IfOk result (λ truths. (length truths ≡ self.now.atoms) × IsAssignment truths (literals self.now.entries)) }
     {
         Ok(Items::from_vec(settled(alloc, self.truths.as_slice())?))

@@ -10,7 +10,7 @@ use Rattle.clause_search.proofs.step.take_step.Goals as goal
 
 pub returns-in-Ok-Some-clause-steps : goal.returns-in-Ok-Some-clause-steps
 returns-in-Ok-Some-clause-steps g c s at =
-    let fails = subst (λ (found : Option ℕ). IfSome found (λ number. IsFalseAt (known_with c.args.clauses.now.clauses c.as_slice.result.now) (literals c.args.course.now.trail.entries) number)) c.in-Ok-Some.field-0-is c.in-Ok-Some.ensures in
+    let fails = subst (λ (found : Option ℕ). IfSome found (λ number. IsFalseAt (known_with c.args.clauses.now.clauses c.as_slice.result.now) (literals c.args.course.now.trail.entries) number)) c.in-Ok-Some.field-0-is c.in-Ok-Some.ensures.found in
     c.conflict.ensures.steps s (at, subst (λ (ls : List Lemma). IsFalseAt (known_with c.args.clauses.now.clauses ls) (literals c.args.course.now.trail.entries) c.in-Ok-Some.number) c.as_slice.ensures fails) (work_left c.args.course.now (counts c.args.budget.now)) (most_work c.args.course.now (counts c.args.budget.now))
 
 pub returns-in-Told-clause-steps : goal.returns-in-Told-clause-steps

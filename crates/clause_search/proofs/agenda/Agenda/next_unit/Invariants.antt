@@ -1,5 +1,5 @@
-use Rattle.std.proofs.Common.{vec_len}
+use Rattle.std.specs.BinaryHeap.{heap_len}
 use Rattle.clause_search.proofs.agenda.Agenda.next_unit.Given as goal
 
-abbrev pub decreases-loop-reason : goal.decreases-loop-reason
-decreases-loop-reason l = vec_len l.self.units
+abbrev pub decreases-loop-waiting : goal.decreases-loop-waiting
+decreases-loop-waiting l = heap_len l.self.units
