@@ -1,0 +1,2 @@
+pub mod ControllerTexts
+pub mod AskingLaws
