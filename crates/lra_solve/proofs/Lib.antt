@@ -1,0 +1,5 @@
+pub mod OpeningLaws
+pub mod ModelLaws
+pub mod CountLaws
+pub mod SolveLaws
+pub mod CoefficientLaws

@@ -1,0 +1,132 @@
+-- The search's answers, said of the clauses: it began at the opening of their rows' theory.
+use Rattle.std.proofs.Common.{◌≡◌, ◌∙◌, ℕ, ◌≤◌, ◌^◌, unsigned_abs, Bool, List, inl, inr, sym, ap, subst, arith}
+use Rattle.whole.specs.Budget.{Counts, counts, opening}
+use Rattle.whole.specs.declared.answers.Stuck.{Stuck}
+use Rattle.fraction.specs.Mixed.{limit}
+use Rattle.fraction.specs.declared.mixed.MixedFrac.{MixedFrac}
+use Rattle.linear_form.specs.Sums.{entry}
+use Rattle.farkas_cert.specs.declared.certificates.Cert.{Cert}
+use Rattle.clause_form.specs.Derivations.{Rows, rows_of}
+use Rattle.clause_form.specs.Theories.{AreMet, HasSolution, Relations, Seen}
+use Rattle.clause_form.specs.WellFormed.{IsWellFormed}
+use Rattle.clause_form.specs.declared.clauses.Clauses.{Clauses}
+use Rattle.clause_search.specs.Answers.{IsAssignment, starting_at}
+use Rattle.clause_search.specs.Answers as search
+use Rattle.corner_values.specs.Faults.{IsStuckValue}
+use Rattle.corner_values.specs.Values.{AreValuesAt}
+use Rattle.corner_values.specs.declared.answer.Values.{Values}
+use Rattle.lra_theory.specs.Relations.{HasViolated, IsOpeningOf, relations}
+use Rattle.lra_theory.specs.Standings.{IsFresh}
+use Rattle.lra_theory.specs.States.{State}
+use Rattle.lra_solve.specs.Solving.{AreValuesOf, IsCounted, IsFound, IsLightProof, IsSpent, IsStuck, IsTotalAt, IsValued, Solves, value_of}
+use Rattle.lra_solve.specs.declared.solved.Solved.{Solved}
+use Rattle.lra_solve.specs.declared.solved.Solved.TheVariants as solved
+use Rattle.lra_solve.specs.declared.solved.Spent.{Spent}
+use Rattle.lra_solve.proofs.CountLaws.{charged_are, charged_spent}
+use Rattle.lra_solve.proofs.ModelLaws.{told_model}
+use Rattle.lra_solve.proofs.OpeningLaws.{open_so, reaches_so, sticks_so}
+
+abbrev the_relations : Relations (State MixedFrac)
+the_relations = relations limit value_of
+
+-- the theory of these clauses' rows, to which nothing was told, is one to begin with, and nothing is spent
+pub search_starts : (c : Clauses) (budget : ℕ) (s : Seen (State MixedFrac)) (n : Counts) → IsWellFormed c → IsFresh limit value_of c s → budget ≤ 2 ^ 31
+    → n ≡ opening budget → search.IsStart the_relations c s n
+search_starts c budget s n formed fresh few none =
+    let within : n.limit ≡ budget = ap (λ (m : Counts). m.limit) none in
+    record {
+      formed = formed;
+      rows = fresh.rows;
+      untold = fresh.told;
+      paid = fresh.owes;
+      at_work = fresh.rest;
+      opens = fresh.state.opening;
+      unspent = none ∙ ap opening (sym within);
+      limit = subst (λ k. k ≤ 2 ^ 31) (sym within) few;
+    }
+
+module _ (c : Clauses) (budget : ℕ) (start : State MixedFrac) (opens : IsOpeningOf limit value_of c start) where
+  abbrev from_start : Relations (State MixedFrac)
+  from_start = starting_at start the_relations
+
+  opened : (s : State MixedFrac) → s ≡ start → IsOpeningOf limit value_of c s
+  opened s is = subst (λ (t : State MixedFrac). IsOpeningOf limit value_of c t) (sym is) opens
+
+  counted : (spent : Spent) → spent.budget.limit ≡ budget → search.IsTally spent.journal.moves (counts spent.budget) → IsCounted c budget spent
+  counted spent within tally =
+      let all = charged_spent spent.journal.moves (counts spent.budget) tally in
+      let most = spent.budget.within in
+      record { limit_is = within; tally = tally; at_most = omega arith }
+
+  total_at : (s : Seen (State MixedFrac)) (truths : List Bool) (spent : Spent) → s.rows ≡ rows_of c → spent.budget.limit ≡ budget
+      → (total : search.IsTotal from_start c s (counts spent.budget) truths spent.journal.moves)
+      → IsTotalAt c budget truths total.reached.place spent
+  total_at s truths spent rows within total = record {
+    counted = counted spent within total.tally;
+    reached = reaches_so the_relations c (λ t. t ≡ start) (IsOpeningOf limit value_of c) opened spent.journal.moves total.reached.place total.reached.reached;
+    atoms = total.atoms;
+    assignment = subst (IsAssignment truths) (sym total.reached.trail) total.assignment;
+    clauses = total.clauses;
+    solution = subst (HasSolution (rows_of c)) (sym total.reached.trail) (subst (λ (r : Rows). HasSolution r s.told) rows total.solution);
+    calm = subst (λ (t : State MixedFrac). HasViolated t → ⊥) (sym total.reached.state) total.calm;
+  }
+
+  -- a model, at the corner of the state that the journal reaches
+  found_law : (s : Seen (State MixedFrac)) (truths : List Bool) (values : Values) (spent : Spent) → s.rows ≡ rows_of c → spent.budget.limit ≡ budget
+      → search.IsTotal from_start c s (counts spent.budget) truths spent.journal.moves → AreValuesOf s values → IsFound c budget values truths spent
+  found_law s truths values spent rows within total are =
+      let met = subst (λ (r : Rows). AreMet r (entry values.values) (unsigned_abs values.over) s.told) rows are.met in
+      record {
+        place = total.reached.place;
+        total = total_at s truths spent rows within total;
+        at_corner = subst (λ (t : State MixedFrac). AreValuesAt t.corner values.over values.values) (sym total.reached.state) are.at_corner;
+        count = are.count ∙ ap (λ (r : Rows). r.columns) rows;
+        over_from = are.over_from;
+        each_in = are.each_in;
+        model = told_model c (entry values.values) (unsigned_abs values.over) truths s.told total.atoms total.assignment total.clauses met;
+      }
+
+  stuck_total : (s : Seen (State MixedFrac)) (truths : List Bool) (stuck : Stuck) (spent : Spent) → s.rows ≡ rows_of c → spent.budget.limit ≡ budget
+      → search.IsTotal from_start c s (counts spent.budget) truths spent.journal.moves → IsStuckValue limit s.state.corner stuck
+      → IsStuck c budget stuck spent
+  stuck_total s truths stuck spent rows within total passes =
+      let at = total_at s truths spent rows within total in
+      record {
+        counted = at.counted;
+        passes = inr (record {
+          truths = truths;
+          place = total.reached.place;
+          total = at;
+          passes = subst (λ (t : State MixedFrac). IsStuckValue limit t.corner stuck) (sym total.reached.state) passes;
+        });
+      }
+
+  -- the answer of the values of a total assignment
+  pub valued_law : (s : Seen (State MixedFrac)) (truths : List Bool) (spent : Spent) (answer : Solved) → s.rows ≡ rows_of c → spent.budget.limit ≡ budget
+      → search.IsTotal from_start c s (counts spent.budget) truths spent.journal.moves → IsValued s truths spent answer → Solves c budget answer
+  valued_law s truths spent (solved.Model values same kept) rows within total is =
+      subst (λ (ts : List Bool). IsFound c budget values ts kept) (sym is.0)
+      (subst (λ (x : Spent). IsFound c budget values truths x) (sym is.1) (found_law s truths values spent rows within total is.2))
+  valued_law s truths spent (solved.Closed cert) rows within total is = absurd is
+  valued_law s truths spent (solved.Spent kept) rows within total is = absurd is
+  valued_law s truths spent (solved.Stuck stuck kept) rows within total is =
+      subst (λ (x : Spent). IsStuck c budget stuck x) (sym is.0) (stuck_total s truths stuck spent rows within total is.1)
+  valued_law s truths spent solved.NoMemory rows within total is = tt
+
+  pub closed_law : (cert : Cert) → search.IsClosed from_start c cert → IsLightProof c budget cert
+  closed_law cert closed = record { proves = closed.proves; few = closed.few; light = closed.light }
+
+  pub spent_law : (spent : Spent) → spent.budget.limit ≡ budget → search.IsSpent from_start c (counts spent.budget) spent.journal.moves
+      → IsSpent c budget spent
+  spent_law spent within is = record {
+    counted = counted spent within is.tally;
+    all = sym (charged_are from_start c spent.journal.moves) ∙ is.all ∙ within;
+    goes_on = open_so the_relations c (λ t. t ≡ start) (IsOpeningOf limit value_of c) opened spent.journal.moves is.goes_on;
+  }
+
+  pub stuck_law : (stuck : Stuck) (spent : Spent) → spent.budget.limit ≡ budget
+      → search.IsStuck from_start c (counts spent.budget) stuck spent.journal.moves → IsStuck c budget stuck spent
+  stuck_law stuck spent within is = record {
+    counted = counted spent within is.tally;
+    passes = inl (sticks_so the_relations c (λ t. t ≡ start) (IsOpeningOf limit value_of c) opened spent.journal.moves stuck is.sticks);
+  }

@@ -1,0 +1,65 @@
+// The search, and after it the values of a total assignment.
+ghost use Rattle.std.specs.Prelude.{◌≡◌, ◌≤◌, ◌^◌, true, IfOk};
+ghost use Rattle.clause_form.specs.WellFormed.{IsWellFormed};
+ghost use Rattle.lra_theory.specs.Standings.{IsFresh};
+ghost use Rattle.fraction.specs.Mixed.{limit};
+ghost use Rattle.lra_solve.specs.Solving.{IsValued, Solves, seen_of, value_of};
+
+use crate::solved::{Solved, Spent};
+use clause_form::Clauses;
+use clause_search::{Found, search};
+use fraction::MixedFrac;
+use lra_theory::{Lra, LraFault};
+use sqlite_items::Items;
+use std::alloc::Global;
+use whole::{Budget, NoMemory};
+
+/// Looks for a model of the clauses, with at most so many decisions, propagated literals and pivots as the budget says,
+/// which is at most `2^31`.
+///
+/// `Model` gives the values of the columns at the corner that the journal reaches, and the truths of the atoms. `Closed`
+/// gives a certificate that proves, in which no sum that a checker forms passes 128 bits. `Spent` comes only where the
+/// whole budget is spent and the journal may go on. `Stuck` names an operation that passes: in carrying out the journal's
+/// last move, in a conflict at the corner reached, or in the values of a total assignment.
+pub fn solve(alloc: Global, clauses: &Clauses, budget: u64) -> Solved
+    requires formed { IsWellFormed clauses.now }
+    requires budget_to { budget ≤ 2 ^ 31 }
+    ensures { Solves clauses.now budget result }
+{
+    let mut theory = match theory_of(alloc, clauses) {
+        Ok(theory) => theory,
+        Err(NoMemory) => return Solved::NoMemory,
+    };
+    let mut budget = Budget::new(budget);
+    match search(alloc, clauses, &mut theory, &mut budget) {
+        Found::Total(truths, journal) => valued(&theory, truths, Spent { budget, journal }),
+        Found::Closed(cert) => Solved::Closed(cert),
+        Found::Spent(journal) => Solved::Spent(Spent { budget, journal }),
+        Found::Stuck(stuck, journal) => Solved::Stuck(stuck, Spent { budget, journal }),
+        Found::NoMemory => Solved::NoMemory,
+    }
+}
+
+/// The theory of the clauses' rows, to which nothing was told. Their coefficients are far below the largest numbers.
+fn theory_of(alloc: Global, clauses: &Clauses) -> Result<Lra<MixedFrac>, NoMemory>
+    requires { IsWellFormed clauses.now }
+    ensures { IfOk result (λ theory. IsFresh limit value_of clauses.now (seen_of theory)) }
+{
+    match Lra::new(alloc, clauses) {
+        Ok(theory) => Ok(theory),
+        Err(LraFault::Stuck(_)) => unreachable!(),
+        Err(LraFault::NoMemory) => Err(NoMemory),
+    }
+}
+
+/// The values of a total assignment.
+fn valued(theory: &Lra<MixedFrac>, truths: Items<bool>, spent: Spent) -> Solved
+    requires { (seen_of theory.now).fine ≡ true }
+    ensures { IsValued (seen_of theory.now) truths spent result }
+{
+    match theory.values() {
+        Ok(values) => Solved::Model(values, truths, spent),
+        Err(LraFault::Stuck(stuck)) => Solved::Stuck(stuck, spent),
+        Err(LraFault::NoMemory) => Solved::NoMemory,
+    }
+}
