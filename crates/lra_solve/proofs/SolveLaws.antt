@@ -18,13 +18,13 @@ use Rattle.corner_values.specs.declared.answer.Values.{Values}
 use Rattle.lra_theory.specs.Relations.{HasViolated, IsOpeningOf, relations}
 use Rattle.lra_theory.specs.Standings.{IsFresh}
 use Rattle.lra_theory.specs.States.{State}
-use Rattle.lra_solve.specs.Solving.{AreValuesOf, IsCounted, IsFound, IsLightProof, IsSpent, IsStuck, IsTotalAt, IsValued, Solves, value_of}
+use Rattle.lra_solve.specs.Solving.{AreValuesOf, IsCounted, IsFound, IsLightProof, IsSpent, IsStuck, IsStuckTotal, IsTotalAt, IsValued, Solves, value_of}
 use Rattle.lra_solve.specs.declared.solved.Solved.{Solved}
 use Rattle.lra_solve.specs.declared.solved.Solved.TheVariants as solved
 use Rattle.lra_solve.specs.declared.solved.Spent.{Spent}
 use Rattle.lra_solve.proofs.CountLaws.{charged_are, charged_spent}
 use Rattle.lra_solve.proofs.ModelLaws.{told_model}
-use Rattle.lra_solve.proofs.OpeningLaws.{open_so, reaches_so, sticks_so}
+use Rattle.lra_solve.proofs.OpeningLaws.{open_learning_so, open_so, reaches_learning_so, reaches_so, sticks_learning_so, sticks_so}
 
 abbrev the_relations : Relations (State MixedFrac)
 the_relations = relations limit value_of
@@ -64,6 +64,9 @@ module _ (c : Clauses) (budget : ℕ) (start : State MixedFrac) (opens : IsOpeni
   total_at s truths spent rows within total = record {
     counted = counted spent within total.tally;
     reached = reaches_so the_relations c (λ t. t ≡ start) (IsOpeningOf limit value_of c) opened spent.journal.moves total.reached.place total.reached.reached;
+    learned =
+        reaches_learning_so the_relations c (λ t. t ≡ start) (IsOpeningOf limit value_of c) opened spent.journal.moves total.reached.place
+        total.reached.learned;
     atoms = total.atoms;
     assignment = subst (IsAssignment truths) (sym total.reached.trail) total.assignment;
     clauses = total.clauses;
@@ -91,15 +94,13 @@ module _ (c : Clauses) (budget : ℕ) (start : State MixedFrac) (opens : IsOpeni
       → IsStuck c budget stuck spent
   stuck_total s truths stuck spent rows within total passes =
       let at = total_at s truths spent rows within total in
-      record {
-        counted = at.counted;
-        passes = inr (record {
-          truths = truths;
-          place = total.reached.place;
-          total = at;
-          passes = subst (λ (t : State MixedFrac). IsStuckValue limit t.corner stuck) (sym total.reached.state) passes;
-        });
-      }
+      let there : IsStuckTotal c budget stuck spent = record {
+        truths = truths;
+        place = total.reached.place;
+        total = at;
+        passes = subst (λ (t : State MixedFrac). IsStuckValue limit t.corner stuck) (sym total.reached.state) passes;
+      } in
+      record { counted = at.counted; passes = inr there; learned = inr there }
 
   -- the answer of the values of a total assignment
   pub valued_law : (s : Seen (State MixedFrac)) (truths : List Bool) (spent : Spent) (answer : Solved) → s.rows ≡ rows_of c → spent.budget.limit ≡ budget
@@ -122,6 +123,7 @@ module _ (c : Clauses) (budget : ℕ) (start : State MixedFrac) (opens : IsOpeni
     counted = counted spent within is.tally;
     all = sym (charged_are from_start c spent.journal.moves) ∙ is.all ∙ within;
     goes_on = open_so the_relations c (λ t. t ≡ start) (IsOpeningOf limit value_of c) opened spent.journal.moves is.goes_on;
+    learned = open_learning_so the_relations c (λ t. t ≡ start) (IsOpeningOf limit value_of c) opened spent.journal.moves is.learned;
   }
 
   pub stuck_law : (stuck : Stuck) (spent : Spent) → spent.budget.limit ≡ budget
@@ -129,4 +131,5 @@ module _ (c : Clauses) (budget : ℕ) (start : State MixedFrac) (opens : IsOpeni
   stuck_law stuck spent within is = record {
     counted = counted spent within is.tally;
     passes = inl (sticks_so the_relations c (λ t. t ≡ start) (IsOpeningOf limit value_of c) opened spent.journal.moves stuck is.sticks);
+    learned = inl (sticks_learning_so the_relations c (λ t. t ≡ start) (IsOpeningOf limit value_of c) opened spent.journal.moves stuck is.learned);
   }

@@ -1,5 +1,5 @@
 -- What the answers of a search over linear rows mean. A journal is legal for the clauses: it begins at the opening of the
--- theory of their rows.
+-- theory of their rows, and each of its conflicts learns.
 use Rattle.std.specs.Prelude.{◌≡◌, ℕ, ◌+◌, ◌^◌, ◌≤◌, pos, ◌≤ℤ◌, unsigned_abs, Bool, ◌⊎◌, List, length, All}
 use Rattle.whole.specs.Budget.{counts}
 use Rattle.whole.specs.Numbers.{IsWithin}
@@ -17,6 +17,7 @@ use Rattle.clause_form.specs.Theories.{AreMet, HasSolution, Relations, Seen}
 use Rattle.clause_form.specs.declared.clauses.Clauses.{Clauses}
 use Rattle.cert_text.specs.Journals.{how_many, is_decide, is_pivot, is_propagate}
 use Rattle.clause_search.specs.Answers.{AreLight, IsAssignment, IsTally, truth_in}
+use Rattle.clause_search.specs.Lessons.{IsOpenLearning, ReachesLearning, SticksLearning}
 use Rattle.corner_values.specs.Faults.{IsStuckValue}
 use Rattle.corner_values.specs.Values.{AreValuesAt}
 use Rattle.corner_values.specs.declared.answer.Values.{Values}
@@ -67,11 +68,12 @@ module _ (c : Clauses) (budget : ℕ) where
     pub tally : IsTally spent.journal.moves (counts spent.budget)
     pub at_most : charged_moves spent.journal.moves ≤ budget
 
-  -- the journal reaches this place, at which each atom is told with its truth, each clause is true, the rows of the literals
+  -- the journal reaches this place, learning, at which each atom is told with its truth, each clause is true, the rows of the literals
   -- told have a common solution, and no variable is violated
   pub record IsTotalAt (truths : List Bool) (place : Place (State MixedFrac)) (spent : Spent) : Type 0 where
     pub counted : IsCounted spent
     pub reached : Reaches (theory_of c) c spent.journal.moves place
+    pub learned : ReachesLearning (theory_of c) c spent.journal.moves place
     pub atoms : length truths ≡ length c.atoms
     pub assignment : IsAssignment truths (literals place.trail)
     pub clauses : Satisfies (truth_in truths) c.clauses
@@ -99,6 +101,7 @@ module _ (c : Clauses) (budget : ℕ) where
     pub counted : IsCounted spent
     pub all : charged_moves spent.journal.moves ≡ budget
     pub goes_on : IsOpen (theory_of c) c spent.journal.moves
+    pub learned : IsOpenLearning (theory_of c) c spent.journal.moves
 
   -- at a total assignment, an operation of epsilon or of the scale passes
   pub record IsStuckTotal (stuck : Stuck) (spent : Spent) : Type 0 where
@@ -111,6 +114,7 @@ module _ (c : Clauses) (budget : ℕ) where
   pub record IsStuck (stuck : Stuck) (spent : Spent) : Type 0 where
     pub counted : IsCounted spent
     pub passes : Sticks (theory_of c) c spent.journal.moves stuck ⊎ IsStuckTotal stuck spent
+    pub learned : SticksLearning (theory_of c) c spent.journal.moves stuck ⊎ IsStuckTotal stuck spent
 
   abbrev pub Solves : Solved → Type 0
   Solves (solved.Model values truths spent) = IsFound values truths spent
