@@ -1,0 +1,6 @@
+pub mod ColumnLaws
+pub mod ProblemLaws
+pub mod SameProblem
+pub mod LightCerts
+pub mod JudgeLaws
+pub mod RefusalLaws

@@ -1,0 +1,4 @@
+pub mod Problems
+pub mod LightCerts
+pub mod Deciding
+pub mod Judging
