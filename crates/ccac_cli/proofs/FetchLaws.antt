@@ -1,10 +1,10 @@
 -- What is known of a fetch that came after another one.
-use Rattle.std.proofs.Common.{◌≡◌, subst, ℕ, ◌<◌, ◌≤◌, inl, inr, List, length, Result, arith}
+use Rattle.std.proofs.Common.{◌≡◌, ◌∙◌, subst, ℕ, ◌<◌, ◌≤◌, inl, inr, List, length, Result, arith}
 use Rattle.std.specs.Prelude.{IfSome}
 use Rattle.ccac_ports.specs.Ports.{HasRisen, Tells, Told}
 use Rattle.ccac_cli.specs.Commands.{Order}
-use Rattle.ccac_cli.specs.Ended.{OrderAnswers, had_three}
-use Rattle.ccac_cli.specs.Fetched.{AreFetched, FetchEnds, Fetches, IsFetched, IsLater, faulty, goes_on, longer, never, stops}
+use Rattle.ccac_cli.specs.Ended.{OrderAnswers, had_three, had_two}
+use Rattle.ccac_cli.specs.Fetched.{AreBothFetched, AreFetched, FetchEnds, Fetches, IsFetched, IsLater, faulty, goes_on, longer, never, never_two, stops}
 use Rattle.ccac_cli.specs.Halted.{HaltsAt, HaltsBy, Replies}
 use Rattle.ccac_cli.specs.Reports.{Answer, limit_of}
 use Rattle.ccac_cli.specs.declared.reports.Report.{Report as Reported}
@@ -50,12 +50,30 @@ pub settled_with : (old new : Told) (source : Source) (name bytes same : List �
 settled_with old new source name bytes same Then result fetched is answers =
     replies_so (Then same) (Fetches old new source name Then) result (λ a allowed. goes_on bytes fetched (subst (λ b. Then b a) is allowed)) answers
 
--- ---- three files
+-- ---- two files, and a third
+
+pub later_still : (old middle new : Told) → IsLater old middle → IsLater middle new → IsLater old new
+later_still old middle new first second = record {
+  faults_stay = λ name. let one = first.faults_stay name in let two = second.faults_stay name in omega arith;
+  excesses_stay = λ name. let one = first.excesses_stay name in let two = second.excesses_stay name in omega arith;
+  kept = λ name. second.kept name ∙ first.kept name;
+}
 
 fetches_so : (old new : Told) (source : Source) (name : List ℕ) (Then More : List ℕ → Answer → Type 0) (a : Answer)
     → ((bytes : List ℕ) → Then bytes a → More bytes a) → Fetches old new source name Then a → Fetches old new source name More a
 fetches_so old new source name Then More a so (stops ends) = stops ends
 fetches_so old new source name Then More a so (goes_on bytes fetched is) = goes_on bytes fetched (so bytes is)
+
+two_stop : (old new : Told) (c q : List ℕ) (Then : List ℕ → List ℕ → Answer → Type 0) (a : Answer) → had_two (Fetches old new) c q never_two a
+    → had_two (Fetches old new) c q Then a
+two_stop old new c q Then a stopped =
+    fetches_so old new Controller c _ _ a (λ one. fetches_so old new Question q (never_two one) (Then one) a (λ two no. absurd no)) stopped
+
+-- a fetch that ends the order of two files, whatever their bytes are, settles it
+pub stopped_by_two : (old new : Told) (c q : List ℕ) (Then : List ℕ → List ℕ → Answer → Type 0) (halt : Halt)
+    → HaltsBy (had_two (Fetches old new) c q never_two) halt → HaltsBy (had_two (Fetches old new) c q Then) halt
+stopped_by_two old new c q Then halt stopped =
+    halts_so (had_two (Fetches old new) c q never_two) (had_two (Fetches old new) c q Then) halt (two_stop old new c q Then) stopped
 
 three_stop : (old new : Told) (third : Source) (c q t : List ℕ) (Then : List ℕ → List ℕ → List ℕ → Answer → Type 0) (a : Answer)
     → had_three (Fetches old new) third c q t never a → had_three (Fetches old new) third c q t Then a
@@ -63,17 +81,28 @@ three_stop old new third c q t Then a stopped =
     fetches_so old new Controller c _ _ a
     (λ one. fetches_so old new Question q _ _ a (λ two. fetches_so old new third t (never one two) (Then one two) a (λ three no. absurd no))) stopped
 
--- a fetch that ends the order of three files, whatever their bytes are, settles it
+-- the same of three files
 pub stopped_by : (old new : Told) (third : Source) (c q t : List ℕ) (Then : List ℕ → List ℕ → List ℕ → Answer → Type 0) (halt : Halt)
     → HaltsBy (had_three (Fetches old new) third c q t never) halt → HaltsBy (had_three (Fetches old new) third c q t Then) halt
 stopped_by old new third c q t Then halt stopped =
     halts_so (had_three (Fetches old new) third c q t never) (had_three (Fetches old new) third c q t Then) halt (three_stop old new third c q t Then) stopped
 
+two_fetched : (old new : Told) (c q one two : List ℕ) (Then : List ℕ → List ℕ → Answer → Type 0) (a : Answer) → AreBothFetched old c q one two
+    → Then one two a → had_two (Fetches old new) c q Then a
+two_fetched old new c q one two Then a are is = goes_on one are.controller_is (goes_on two are.question_is is)
+
+-- a report that the bytes of two fetched files allow is one that their names allow
+pub settled_with_two : (old new : Told) (c q one two one' two' : List ℕ) (Then : List ℕ → List ℕ → Answer → Type 0) (result : Result Reported Halt)
+    → AreBothFetched old c q one two → one' ≡ one → two' ≡ two → Replies (Then one' two') result → Replies (had_two (Fetches old new) c q Then) result
+settled_with_two old new c q one two one' two' Then result are first second answers =
+    replies_so (Then one' two') (had_two (Fetches old new) c q Then) result
+    (λ a is. two_fetched old new c q one two Then a are (subst (λ b. Then b two a) first (subst (λ b. Then one' b a) second is))) answers
+
 three_fetched : (old new : Told) (third : Source) (c q t one two three : List ℕ) (Then : List ℕ → List ℕ → List ℕ → Answer → Type 0) (a : Answer)
     → AreFetched old third c q t one two three → Then one two three a → had_three (Fetches old new) third c q t Then a
 three_fetched old new third c q t one two three Then a are is = goes_on one are.controller_is (goes_on two are.question_is (goes_on three are.third_is is))
 
--- a report that the bytes of three fetched files allow is one that their names allow
+-- the same of three files
 pub settled_with_three : (old new : Told) (third : Source) (c q t one two three one' two' three' : List ℕ)
     (Then : List ℕ → List ℕ → List ℕ → Answer → Type 0) (result : Result Reported Halt) → AreFetched old third c q t one two three
     → one' ≡ one → two' ≡ two → three' ≡ three → Replies (Then one' two' three') result → Replies (had_three (Fetches old new) third c q t Then) result
@@ -82,31 +111,38 @@ settled_with_three old new third c q t one two three one' two' three' Then resul
     (λ a is. three_fetched old new third c q t one two three Then a are
     (subst (λ b. Then b two three a) first (subst (λ b. Then one' b three a) second (subst (λ b. Then one' two' b a) last is)))) answers
 
--- ---- the fetch of three files
+-- ---- the fetch of two files
 
-pub first_stops : (old new : Told) (third : Source) (c q t : List ℕ) (halt : Halt) → HaltsAt old new Controller c halt
-    → HaltsBy (had_three (Fetches old new) third c q t never) halt
-first_stops old new third c q t halt ends =
-    halts_so (FetchEnds old new Controller c) (had_three (Fetches old new) third c q t never) halt (λ a stop. stops stop) ends
+pub first_stops : (old new : Told) (c q : List ℕ) (halt : Halt) → HaltsAt old new Controller c halt
+    → HaltsBy (had_two (Fetches old new) c q never_two) halt
+first_stops old new c q halt ends =
+    halts_so (FetchEnds old new Controller c) (had_two (Fetches old new) c q never_two) halt (λ a stop. stops stop) ends
 
-pub second_stops : (old middle new : Told) (third : Source) (c q t one : List ℕ) (halt : Halt) → IsLater old middle → IsFetched old Controller c one
-    → HaltsAt middle new Question q halt → HaltsBy (had_three (Fetches old new) third c q t never) halt
-second_stops old middle new third c q t one halt later fetched ends =
-    halts_so (FetchEnds old new Question q) (had_three (Fetches old new) third c q t never) halt (λ a stop. goes_on one fetched (stops stop))
+pub second_stops : (old middle new : Told) (c q one : List ℕ) (halt : Halt) → IsLater old middle → IsFetched old Controller c one
+    → HaltsAt middle new Question q halt → HaltsBy (had_two (Fetches old new) c q never_two) halt
+second_stops old middle new c q one halt later fetched ends =
+    halts_so (FetchEnds old new Question q) (had_two (Fetches old new) c q never_two) halt (λ a stop. goes_on one fetched (stops stop))
     (later_halts old middle new Question q halt later ends)
 
-pub third_stops : (old second last new : Told) (third : Source) (c q t one two : List ℕ) (halt : Halt) → IsLater old second → IsLater second last
-    → IsFetched old Controller c one → IsFetched second Question q two → HaltsAt last new third t halt
-    → HaltsBy (had_three (Fetches old new) third c q t never) halt
-third_stops old second last new third c q t one two halt later later' fetched fetched' ends =
-    halts_so (FetchEnds old new third t) (had_three (Fetches old new) third c q t never) halt
-    (λ a stop. goes_on one fetched (goes_on two (later_fetched old second Question q two later fetched') (stops stop)))
-    (later_halts old second new third t halt later (later_halts second last new third t halt later' ends))
-
-pub all_fetched : (old second last : Told) (third : Source) (c q t one two three : List ℕ) → IsLater old second → IsLater second last
-    → IsFetched old Controller c one → IsFetched second Question q two → IsFetched last third t three → AreFetched old third c q t one two three
-all_fetched old second last third c q t one two three later later' first fetched fetched' = record {
+pub both_fetched : (old middle : Told) (c q one two : List ℕ) → IsLater old middle → IsFetched old Controller c one → IsFetched middle Question q two
+    → AreBothFetched old c q one two
+both_fetched old middle c q one two later first second = record {
   controller_is = first;
-  question_is = later_fetched old second Question q two later fetched;
-  third_is = later_fetched old second third t three later (later_fetched second last third t three later' fetched');
+  question_is = later_fetched old middle Question q two later second;
+}
+
+-- ---- the fetch of a third file
+
+pub third_stops : (old middle new : Told) (third : Source) (c q t one two : List ℕ) (halt : Halt) → IsLater old middle
+    → AreBothFetched old c q one two → HaltsAt middle new third t halt → HaltsBy (had_three (Fetches old new) third c q t never) halt
+third_stops old middle new third c q t one two halt later both ends =
+    halts_so (FetchEnds old new third t) (had_three (Fetches old new) third c q t never) halt
+    (λ a stop. goes_on one both.controller_is (goes_on two both.question_is (stops stop))) (later_halts old middle new third t halt later ends)
+
+pub all_fetched : (old middle : Told) (third : Source) (c q t one two three : List ℕ) → IsLater old middle → AreBothFetched old c q one two
+    → IsFetched middle third t three → AreFetched old third c q t one two three
+all_fetched old middle third c q t one two three later both last = record {
+  controller_is = both.controller_is;
+  question_is = both.question_is;
+  third_is = later_fetched old middle third t three later last;
 }

@@ -1,12 +1,17 @@
 -- Replies, and commands that end early.
-use Rattle.std.proofs.Common.{◌≡◌, subst, sym, refl, Result, Ok, Err}
+use Rattle.std.proofs.Common.{◌≡◌, subst, sym, refl, ℕ, List, Result, Ok, Err}
 use Rattle.whole.specs.declared.answers.ReadFault.{ReadFault}
 use Rattle.whole.specs.declared.answers.ReadFault.TheVariants as faults
 use Rattle.whole.specs.declared.answers.Refusal.{Refusal}
-use Rattle.ccac_cli.specs.Halted.{HaltsAs, HaltsBy, Replies}
+use Rattle.asked.specs.Asked.{AskFails}
+use Rattle.asked.specs.declared.asking.AskFault.{AskFault}
+use Rattle.asked.specs.declared.asking.AskFault.TheVariants as unasked
+use Rattle.ccac_cli.specs.Asked.{AskRefused, controller_refused, question_refused}
+use Rattle.ccac_cli.specs.Halted.{HaltsAs, HaltsAsAsked, HaltsBy, Replies}
 use Rattle.ccac_cli.specs.Reports.{Answer, refused}
 use Rattle.ccac_cli.specs.declared.reports.Report.{Report as Reported}
 use Rattle.ccac_cli.specs.declared.reports.Source.{Source}
+use Rattle.ccac_cli.specs.declared.reports.Source.TheVariants.{Controller as ControllerFile, Question as QuestionFile}
 use Rattle.ccac_cli.specs.declared.fetching.Halt.{Halt}
 use Rattle.ccac_cli.specs.declared.fetching.Halt.TheVariants.{Report, NoMemory}
 
@@ -26,3 +31,14 @@ pub refusal_halts : (Allowed : Answer → Type 0) (source : Source) (fault : Rea
 refusal_halts Allowed source (faults.Refused r) halt ends so =
     halts_so (λ a. a ≡ refused source r) Allowed halt (λ a is. subst Allowed (sym is) (so r refl)) ends
 refusal_halts Allowed source faults.NoMemory halt ends so = subst (HaltsBy Allowed) (sym ends) tt
+
+-- a controller or a question that was refused ends the command as this refusal does
+pub ask_halts : (controller question : List ℕ) (fault : AskFault) (halt : Halt) → AskFails controller question fault → HaltsAsAsked fault halt
+    → HaltsBy (AskRefused controller question) halt
+ask_halts controller question (unasked.Controller r) halt is ends =
+    halts_so (λ a. a ≡ refused ControllerFile r) (AskRefused controller question) halt
+    (λ a same. subst (AskRefused controller question) (sym same) (controller_refused r is)) ends
+ask_halts controller question (unasked.Question r) halt is ends =
+    halts_so (λ a. a ≡ refused QuestionFile r) (AskRefused controller question) halt
+    (λ a same. subst (AskRefused controller question) (sym same) (question_refused is.syntax is.asked r is.controller_is is.refused)) ends
+ask_halts controller question unasked.NoMemory halt is ends = subst (HaltsBy (AskRefused controller question)) (sym ends) tt

@@ -11,30 +11,36 @@ use Rattle.trace_replay.specs.declared.replaying.Replayed.TheVariants.{Violating
 use Rattle.trace_replay.proofs.ReplayLaws.{broken_law, keeps_law, violating_law, wide_law}
 use Rattle.clause_form.specs.Building.{limit_of}
 use Rattle.clause_form.specs.declared.clauses.What.{What}
-use Rattle.cert_check.specs.Verdicts.{Verdict}
+use Rattle.cert_check.specs.Verdicts.{Verdict as Checked}
 use Rattle.cert_check.specs.Verdicts as checks
 use Rattle.cert_check.proofs.VerdictLaws.{each_has_a_verdict}
 use Rattle.ccac_ports.specs.Ports.{Appends, Got, Told}
 use Rattle.ccac_cli.specs.Admitting.{AdmitAnswers, TraceAnswers}
 use Rattle.ccac_cli.specs.Admitting as admitting
-use Rattle.ccac_cli.specs.Commands.{Order, admit, audit, format, format_question, replay}
+use Rattle.ccac_cli.specs.Commands.{Order, admit, audit, check, format, format_question, replay}
 use Rattle.ccac_cli.specs.Ended.{Answers, Ends, OrderAnswers, cut_short, no_memory, no_memory_left, whole}
 use Rattle.ccac_cli.specs.Fetched.{FetchEnds, Fetches, IsFetched, faulty, goes_on, longer, stops}
 use Rattle.ccac_cli.specs.Audits.{AuditAnswers, CertAnswers, ProblemAnswers}
 use Rattle.ccac_cli.specs.Audits as audits
-use Rattle.ccac_cli.specs.Asked.{AreAsked, AskRefused}
+use Rattle.asked.specs.Asked.{AreAsked}
+use Rattle.ccac_cli.specs.Asked.{AskRefused}
 use Rattle.ccac_cli.specs.Asked as asking
 use Rattle.ccac_cli.specs.Formats.{FormatAnswers, QuestionFormat, formatted, question_text}
 use Rattle.ccac_cli.specs.Formats as formats
-use Rattle.ccac_cli.specs.Meaning.{IsMeant, Means, NamesCert, NamesQuestion, NamesSetting, NamesTrace, Poses, admit_wide, admitted, audit_wide, breaks, controller_put, fails, keeps, not_admitted, proved, question_put, replay_wide, violating}
+use Rattle.ccac_cli.specs.Headline.{Headline}
+use Rattle.ccac_cli.specs.Meaning.{IsMeant, Means, admit_wide, admitted, audit_wide, breaks, checked, controller_put, fails, keeps, not_admitted, proved}
+use Rattle.ccac_cli.specs.Meaning.{question_put, replay_wide, violating}
+use Rattle.ccac_cli.specs.Named.{NamesCert, NamesQuestion, NamesSetting, NamesTrace, Poses}
 use Rattle.ctrl_types.specs.declared.controllers.Controller.{Controller}
 use Rattle.question_text.specs.declared.questions.Question.{Question}
 use Rattle.ccac_cli.specs.Replays.{ReplayAnswers, RunAnswers}
 use Rattle.ccac_cli.specs.Replays as replays
-use Rattle.ccac_cli.specs.Reports.{Answer, broken, check_report, read_fault, refused, replay_verdict, too_large, too_long, unproved, usage, verdict, wide, wide_sum}
+use Rattle.ccac_cli.specs.Reports.{Answer, broken, check_report, read_fault, refused, replay_verdict, too_large, too_long, unproved, usage, verdict, wide}
+use Rattle.ccac_cli.specs.Reports.{wide_sum}
 use Rattle.ccac_cli.specs.declared.reports.Source.{Source}
 use Rattle.ccac_cli.specs.declared.reports.Source.TheVariants.{Controller as ControllerFile, Question as QuestionFile, Trace, Cert as CertFile}
-use Rattle.ccac_cli.proofs.AuditLaws.{none_violates}
+use Rattle.verdict.proofs.ProblemLaws.{none_violates}
+use Rattle.ccac_cli.proofs.HeadlineLaws.{headline_is_no_usage, names_asked, order_headline}
 
 -- what is meant by an answer to this order, if its status is one of the three or that of usage
 abbrev IsReport : Told → Order → Answer → Type 0
@@ -111,17 +117,6 @@ run_reports folder c q t bytes asked _ fetched (replays.replayed shape r text) l
     replay_reports folder c q t asked (record { bytes = bytes; fetched = fetched; shape = shape; run = r; is = text })
     (replaying asked.asked.controller asked.question r) refl low
 
--- a controller and a question that were read
-abbrev names_asked : (folder : Told) (c q controller question : List ℕ) (d : Controller) (p : Question) → IsFetched folder ControllerFile c controller
-    → IsFetched folder QuestionFile q question → AreAsked controller question d p → NamesQuestion folder c q
-names_asked folder c q controller question d p first second are = record {
-  asked = record { bytes = controller; fetched = first; syntax = are.syntax; controller = d; is = are.controller_is };
-  bytes = question;
-  fetched = second;
-  question = p;
-  is = are.question_is;
-}
-
 ask_refusal_reports : (folder : Told) (order : Order) (controller question : List ℕ) (a : Answer) → AskRefused controller question a → IsReport folder order a
 ask_refusal_reports folder order controller question _ (asking.controller_refused r is) low = refusal_reports folder order ControllerFile r low
 ask_refusal_reports folder order controller question _ (asking.question_refused syntax d r spelled is) low = refusal_reports folder order QuestionFile r low
@@ -136,13 +131,13 @@ replayed_reports folder c q t controller question trace a first second third (as
 
 -- ---- a certificate
 
-check_reports : (folder : Told) (c q k : List ℕ) (posed : Poses folder c q) (cert : NamesCert folder k) (found : Verdict)
+check_reports : (folder : Told) (c q k : List ℕ) (posed : Poses folder c q) (cert : NamesCert folder k) (found : Checked)
     → checks.verdict posed.problem cert.cert ≡ found → IsReport folder (audit c q k) (check_report found)
 unfolding check_report unproved wide_sum
 check_reports folder c q k posed cert checks.proved is low =
     let law = each_has_a_verdict posed.problem cert.cert in
     proved c q k posed cert (law.proves.0 is).0
-    (none_violates posed.asked.asked.controller posed.asked.question posed.problem cert.cert posed.asked.asked.is.limits posed.asked.is.limits posed.is is)
+    (none_violates posed.asked.asked.controller posed.asked.question posed.problem posed.asked.asked.is.limits posed.asked.is.limits posed.is cert.cert is)
 check_reports folder c q k posed cert (checks.fails lemma node cause) is low =
     let law = each_has_a_verdict posed.problem cert.cert in fails c q k posed cert lemma node cause ((law.failed lemma node cause).0 is)
 check_reports folder c q k posed cert (checks.wide lemma node column) is low =
@@ -172,6 +167,12 @@ audited_reports folder c q k controller question cert a first second third (aski
     ask_refusal_reports folder (audit c q k) controller question a is low
 audited_reports folder c q k controller question cert a first second third (asking.asked d p are answers) low =
     problem_reports folder c q k cert (names_asked folder c q controller question d p first second are) a third answers low
+
+-- ---- a question that is decided
+
+headline_reports : (old new : Told) (c q : List ℕ) (a : Answer) → Headline old new c q a → IsReport old (check c q) a
+headline_reports old new c q a is (inl low) = checked c q new a low is
+headline_reports old new c q a is (inr four) = absurd (headline_is_no_usage old new c q a is four)
 
 -- ---- canonical texts
 
@@ -207,6 +208,7 @@ order_reports old new (audit c q k) a answers =
     after_file old new (audit c q k) ControllerFile c _ a (λ controller first. after_file old new (audit c q k) QuestionFile q _ a
     (λ question second. after_file old new (audit c q k) CertFile k _ a
     (λ cert third is. audited_reports old c q k controller question cert a first second third is))) answers
+order_reports old new (check c q) a answers = headline_reports old new c q a (order_headline old new c q a answers)
 order_reports old new (format c) a answers =
     after_file old new (format c) ControllerFile c _ a (λ controller fetched is. format_reports old c controller a fetched is) answers
 order_reports old new (format_question c q) a answers =
@@ -225,6 +227,7 @@ low_status folder _ _ _ (replay_wide c q t asked trace stuck is) = omega arith
 low_status folder _ _ _ (proved c q k posed cert proves none) = omega arith
 low_status folder _ _ _ (fails c q k posed cert lemma node cause is) = omega arith
 low_status folder _ _ _ (audit_wide c q k posed cert lemma node column is) = omega arith
+low_status folder _ _ _ (checked c q later a low is) = low
 low_status folder _ _ _ (controller_put c named) = omega arith
 low_status folder _ _ _ (question_put c q named) = omega arith
 

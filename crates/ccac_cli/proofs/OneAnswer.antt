@@ -11,26 +11,28 @@ use Rattle.ctrl_syntax.proofs.Exactness as controllers
 use Rattle.question_syntax.proofs.Exactness as questions
 use Rattle.trace_text.proofs.Exactness as traces
 use Rattle.ccac_cli.specs.Admitting.{AdmitAnswers, TraceAnswers, trace_refused, examined, question_refused, question_read}
-use Rattle.ccac_cli.specs.Commands.{Order, admit, audit, format, format_question, replay}
+use Rattle.ccac_cli.specs.Commands.{Order, admit, audit, check, format, format_question, replay}
 use Rattle.ccac_cli.specs.Ended.{OrderAnswers, ToldAnswers}
-use Rattle.ccac_cli.specs.Fetched.{Fetches, Holds, faulty, goes_on, longer, stops}
+use Rattle.ccac_cli.specs.Fetched.{Fetches, Holds, IsTold, faulty, goes_on, longer, stops}
 use Rattle.ccac_cli.specs.Formats.{FormatAnswers, controller_refused, controller_put, formatted}
 use Rattle.ccac_cli.specs.Reports.{Answer, limit_of, refused, verdict}
+use Rattle.ccac_cli.specs.Saved.{behind_verdict}
 use Rattle.ccac_cli.specs.Texts.{IsSettingText}
 use Rattle.ccac_cli.specs.declared.reports.Source.{Source}
 use Rattle.ccac_cli.specs.declared.reports.Source.TheVariants.{Controller, Question, Trace, Cert}
-use Rattle.ccac_cli.proofs.ControllerTexts.{one_refusal, not_both}
+use Rattle.asked.proofs.ControllerTexts.{one_refusal, not_both}
 use Rattle.ccac_cli.proofs.OneAudit.{audited_once}
+use Rattle.ccac_cli.proofs.OneCheck.{check_refused_so, checked_once}
 use Rattle.ccac_cli.proofs.OneReplay.{question_formatted_once, replayed_once}
 
 -- ---- a question and a trace
 
 one_verdict : (s : Setting) (trace : List ℕ) (a b : Answer) → TraceAnswers s trace a → TraceAnswers s trace b → a ≡ b
-one_verdict s trace _ _ (trace_refused r one) (trace_refused t two) = ap (refused Trace) (traces.one_refusal trace r t one two)
-one_verdict s trace _ _ (trace_refused r one) (examined shape run two) = absurd (traces.not_both trace r shape run one two)
-one_verdict s trace _ _ (examined shape run one) (trace_refused r two) = absurd (traces.not_both trace r shape run two one)
+one_verdict s trace _ _ (trace_refused r one) (trace_refused t two) = ap (refused Trace) (traces.one_refusal (behind_verdict trace) r t one two)
+one_verdict s trace _ _ (trace_refused r one) (examined shape run two) = absurd (traces.not_both (behind_verdict trace) r shape run one two)
+one_verdict s trace _ _ (examined shape run one) (trace_refused r two) = absurd (traces.not_both (behind_verdict trace) r shape run two one)
 one_verdict s trace _ _ (examined shape run one) (examined other another two) =
-    ap (λ (r : Run). verdict (admission s.path r)) (traces.one_trace trace shape run other another one two).1
+    ap (λ (r : Run). verdict (admission s.path r)) (traces.one_trace (behind_verdict trace) shape run other another one two).1
 
 one_setting : (bytes : List ℕ) (s t : Setting) → IsSettingText bytes s → IsSettingText bytes t → s ≡ t
 one_setting bytes s t one two =
@@ -55,17 +57,22 @@ formatted_once controller _ _ (controller_put syntax c one) (controller_put othe
 -- ---- the files of an order
 
 -- a file that is told is fetched as it is told to be, and its bytes decide
+pub told_decides : (old new : Told) (source : Source) (name held : List ℕ) (Then : List ℕ → Answer → Type 0) (a : Answer) → IsTold old new source name held
+    → Fetches old new source name Then a → Then held a
+told_decides old new source name held Then a is (stops (faulty rose)) = absurd (is.no_fault rose)
+told_decides old new source name held Then a is (stops (longer rose past)) =
+    let longer_still : limit_of source < length held =
+    subst (λ told. IfSome told (λ bytes. limit_of source < length bytes)) is.content past
+    in
+    let within = is.within in absurd (omega arith)
+told_decides old new source name held Then a is (goes_on bytes fetched decides) =
+    let same : bytes ≡ held = subst (λ told. Tells told bytes) is.content fetched.told in
+    subst (λ got. Then got a) same decides
+
 same_file : (old new : Told) (source : Source) (name : List ℕ) (Then Other : List ℕ → Answer → Type 0) (a b : Answer)
     → ((bytes : List ℕ) → Then bytes a → Other bytes b → a ≡ b) → Fetches old new source name Then a → Holds old new source name Other b → a ≡ b
-same_file old new source name Then Other a b once (stops (faulty rose)) held = absurd (held.told.no_fault rose)
-same_file old new source name Then Other a b once (stops (longer rose past)) held =
-    let longer_still : limit_of source < length held.bytes =
-    subst (λ told. IfSome told (λ bytes. limit_of source < length bytes)) held.told.content past
-    in
-    let within = held.told.within in absurd (omega arith)
-same_file old new source name Then Other a b once (goes_on bytes fetched decides) held =
-    let same : bytes ≡ held.bytes = subst (λ told. Tells told bytes) held.told.content fetched.told in
-    once held.bytes (subst (λ got. Then got a) same decides) held.decides
+same_file old new source name Then Other a b once fetches held =
+    once held.bytes (told_decides old new source name held.bytes Then a held.told fetches) held.decides
 
 pub told_once : (old new : Told) (order : Order) (a b : Answer) → OrderAnswers old new order a → ToldAnswers old new order b → a ≡ b
 told_once old new (admit q t) a b one two =
@@ -79,6 +86,9 @@ told_once old new (audit c q k) a b one two =
     same_file old new Controller c _ _ a b
     (λ controller. same_file old new Question q _ _ a b
     (λ question. same_file old new Cert k _ _ a b (λ cert. audited_once controller question cert a b))) one two
+told_once old new (check c q) a b one two =
+    same_file old new Controller c _ _ a b
+    (λ controller. same_file old new Question q _ _ a b (λ question. checked_once controller question a b)) one two
 told_once old new (format c) a b one two = same_file old new Controller c _ _ a b (λ controller. formatted_once controller a b) one two
 told_once old new (format_question c q) a b one two =
     same_file old new Controller c _ _ a b
@@ -101,6 +111,9 @@ told_fetched old new (replay c q t) a held =
 told_fetched old new (audit c q k) a held =
     fetched_so old new Controller c _ _ a
     (λ controller. fetched_so old new Question q _ _ a (λ question. fetched_so old new Cert k _ _ a (λ cert is. is))) held
+told_fetched old new (check c q) a held =
+    fetched_so old new Controller c _ _ a
+    (λ controller. fetched_so old new Question q _ _ a (λ question is. check_refused_so controller question a is)) held
 told_fetched old new (format c) a held = fetched_so old new Controller c _ _ a (λ controller is. is) held
 told_fetched old new (format_question c q) a held =
     fetched_so old new Controller c _ _ a (λ controller. fetched_so old new Question q _ _ a (λ question is. is)) held

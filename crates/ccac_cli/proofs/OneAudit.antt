@@ -1,6 +1,6 @@
 -- The bytes of a controller, a question and a certificate have one answer: they pose one problem, and what a check comes to
 -- depends on a certificate only as its text says.
-use Rattle.std.proofs.Common.{◌≡◌, ℕ, List, [], ◌∷◌, ◌++◌, length, Result, Ok, Err, sym, ◌∙◌, ap, subst}
+use Rattle.std.proofs.Common.{◌≡◌, ℕ, List, [], ◌∷◌, ◌++◌, length, Result, Ok, Err, refl, sym, ◌∙◌, ap, subst}
 use Rattle.std.specs.Prelude.{◌==◌, ◌&&◌}
 use Rattle.ctrl_types.specs.Resolving.{controller_seen}
 use Rattle.ctrl_types.specs.declared.controllers.Controller.{Controller}
@@ -15,22 +15,27 @@ use Rattle.cert_check.specs.Causes.{asked, end_event, events, lemma_events}
 use Rattle.cert_check.specs.Verdicts.{Verdict, first_of, verdict}
 use Rattle.cert_text.specs.Spelling.{Certificate, certificate}
 use Rattle.cert_text.proofs.Exactness as certs
-use Rattle.ccac_cli.specs.Audits.{AuditAnswers, CertAnswers, ProblemAnswers, behind_verdict, cert_refused, checked, large, problem_of, unrolled}
+use Rattle.verdict.specs.Problems.{problem_of}
+use Rattle.ccac_cli.specs.Saved.{behind_verdict}
+use Rattle.ccac_cli.specs.Audits.{AuditAnswers, CertAnswers, ProblemAnswers, cert_refused, checked, large, unrolled}
 use Rattle.ccac_cli.specs.Reports.{Answer, check_report, refused, too_large}
 use Rattle.ccac_cli.specs.declared.reports.Source.TheVariants.{Cert as CertFile}
 use Rattle.ccac_cli.proofs.OneReplay.{asks_once}
-use Rattle.ccac_cli.proofs.SameProblem.{problem_same}
+use Rattle.verdict.proofs.SameProblem.{problem_same}
 
 -- what a check comes to of what a certificate's text says
-abbrev verdict_by : Clauses → Certificate → Verdict
+abbrev pub verdict_by : Clauses → Certificate → Verdict
 verdict_by c x =
     first_of
     (record { lemma = 0; node = 0; found = asked 1 ((x.columns == c.columns) && ((x.atoms == length c.atoms) && (x.clauses == length c.clauses))) }
     ∷ (lemma_events (rows_of c) c.clauses 0 x.lemmas ++ end_event 0 x.lemmas ∷ []))
 
-verdict_same : (c : Clauses) (x y : Cert) → certificate x ≡ certificate y → verdict c x ≡ verdict c y
+pub verdict_is : (c : Clauses) (x : Cert) → verdict c x ≡ verdict_by c (certificate x)
 unfolding verdict events
-verdict_same c x y same = ap (verdict_by c) same
+verdict_is c x = refl
+
+verdict_same : (c : Clauses) (x y : Cert) → certificate x ≡ certificate y → verdict c x ≡ verdict c y
+verdict_same c x y same = verdict_is c x ∙ ap (verdict_by c) same ∙ sym (verdict_is c y)
 
 checked_once : (problem : Clauses) (file : List ℕ) (a b : Answer) → CertAnswers problem file a → CertAnswers problem file b → a ≡ b
 checked_once problem file _ _ (cert_refused r one) (cert_refused s two) = ap (refused CertFile) (certs.one_refusal (behind_verdict file) r s one two)

@@ -20,47 +20,31 @@ use Rattle.question_text.proofs.TellingLaws as questions
 use Rattle.trace_replay.specs.Replaying.{replaying}
 use Rattle.trace_text.proofs.Exactness as traces
 use Rattle.trace_replay.proofs.SeenLaws.{replaying_same}
-use Rattle.ccac_cli.specs.Asked.{AreAsked, AskRefused, Asks, IsAsked, ask_refused, asked, controller_refused, question_refused}
+use Rattle.asked.specs.Asked.{AreAsked, IsAsked}
+use Rattle.ccac_cli.specs.Asked.{AskRefused, Asks, ask_refused, asked, controller_refused, question_refused}
 use Rattle.ccac_cli.specs.Formats.{QuestionFormat, formatted, question_text}
 use Rattle.ccac_cli.specs.Replays as replays
 use Rattle.ccac_cli.specs.Replays.{ReplayAnswers, RunAnswers}
 use Rattle.ccac_cli.specs.Reports.{Answer, refused, replay_verdict}
-use Rattle.ccac_cli.specs.Texts.{IsControllerText}
+use Rattle.asked.specs.Texts.{IsControllerText}
 use Rattle.ccac_cli.specs.declared.reports.Source.TheVariants.{Controller as ControllerFile, Question as QuestionFile, Trace}
-use Rattle.ccac_cli.proofs.ControllerTexts.{one_refusal, not_both}
-
-one_seen : (bytes : List ℕ) (syntax other : Syntax) (c d : Controller) → IsControllerText bytes syntax c → IsControllerText bytes other d
-    → controller_seen c ≡ controller_seen d
-one_seen bytes syntax other c d one two =
-    let same : sections_of other ≡ sections_of syntax = controllers.one_text bytes (sections_of other) (sections_of syntax) two.spelled one.spelled in
-    one_controller (sections_of syntax) c d one.resolved (subst (λ (s : Sections). Resolves s d) same two.resolved)
+use Rattle.asked.proofs.AskingLaws.{one_asked, one_seen, refused_alone, refused_once}
+use Rattle.asked.proofs.ControllerTexts.{one_refusal, not_both}
+use Rattle.ccac_cli.specs.Saved.{behind_verdict}
 
 -- ---- a trace about what is seen the same
 
 run_once : (trace : List ℕ) (c d : Controller) (q p : Question) → controller_seen c ≡ controller_seen d → question_seen q ≡ question_seen p
     → (a b : Answer) → RunAnswers trace c q a → RunAnswers trace d p b → a ≡ b
 run_once trace c d q p controllers questions _ _ (replays.trace_refused r one) (replays.trace_refused s two) =
-    ap (refused Trace) (traces.one_refusal trace r s one two)
+    ap (refused Trace) (traces.one_refusal (behind_verdict trace) r s one two)
 run_once trace c d q p controllers questions _ _ (replays.trace_refused r one) (replays.replayed shape run two) =
-    absurd (traces.not_both trace r shape run one two)
+    absurd (traces.not_both (behind_verdict trace) r shape run one two)
 run_once trace c d q p controllers questions _ _ (replays.replayed shape run one) (replays.trace_refused r two) =
-    absurd (traces.not_both trace r shape run two one)
+    absurd (traces.not_both (behind_verdict trace) r shape run two one)
 run_once trace c d q p controllers questions _ _ (replays.replayed shape run one) (replays.replayed other another two) =
-    ap (λ (r : Run). replay_verdict (replaying c q r)) (traces.one_trace trace shape run other another one two).1
+    ap (λ (r : Run). replay_verdict (replaying c q r)) (traces.one_trace (behind_verdict trace) shape run other another one two).1
     ∙ ap replay_verdict (replaying_same c d q p another controllers questions)
-
--- ---- a question about what is seen the same
-
-module _ (c d : Controller) (same : controller_seen c ≡ controller_seen d) (bytes : List ℕ) where
-  one_asked : (q p : Question) → IsAsked c bytes q → IsAsked d bytes p → question_seen q ≡ question_seen p
-  one_asked q p one two =
-      questions.one_question d bytes (question_seen q) (question_seen p) (text_same c d same bytes (question_seen q) one.spelled) two.spelled
-
-  refused_once : (r s : Refusal) → IsRefused c bytes r → IsRefused d bytes s → r ≡ s
-  refused_once r s one two = questions.one_refusal d bytes r s (refused_same c d same bytes r one) two
-
-  refused_alone : (r : Refusal) (p : Question) → IsRefused c bytes r → IsAsked d bytes p → ⊥
-  refused_alone r p one two = questions.not_both d bytes r (question_seen p) (refused_same c d same bytes r one) two.spelled
 
 -- ---- a controller and a question: they are refused or mean the same, and what is answered to the same is the same
 
@@ -72,21 +56,27 @@ module _ (controller question : List ℕ) where
   refused_asking _ _ (question_refused syntax c r one breaks) (question_refused other d s two breaks') =
       ap (refused QuestionFile) (refused_once c d (one_seen controller syntax other c d one two) question r s breaks breaks')
 
-  refused_or_asked : (a : Answer) (d : Controller) (p : Question) → AskRefused controller question a → AreAsked controller question d p → ⊥
+  pub refused_or_asked : (a : Answer) (d : Controller) (p : Question) → AskRefused controller question a → AreAsked controller question d p → ⊥
   refused_or_asked _ d p (controller_refused r one) two = not_both controller two.syntax d r two.controller_is one
   refused_or_asked _ d p (question_refused syntax c r one breaks) two =
       refused_alone c d (one_seen controller syntax two.syntax c d one two.controller_is) question r p breaks two.question_is
+
+  pub asks_one_of : (Then Other : Controller → Question → Answer → Type 0)
+      → ((c d : Controller) (q p : Question) → controller_seen c ≡ controller_seen d → question_seen q ≡ question_seen p
+      → (a b : Answer) → Then c q a → Other d p b → a ≡ b)
+      → (a b : Answer) → Asks controller question Then a → Asks controller question Other b → a ≡ b
+  asks_one_of Then Other once a b (ask_refused one) (ask_refused two) = refused_asking a b one two
+  asks_one_of Then Other once a b (ask_refused one) (asked d p two then) = absurd (refused_or_asked a d p one two)
+  asks_one_of Then Other once a b (asked c q one then) (ask_refused two) = absurd (refused_or_asked b c q two one)
+  asks_one_of Then Other once a b (asked c q one then) (asked d p two then') =
+      let same = one_seen controller one.syntax two.syntax c d one.controller_is two.controller_is in
+      once c d q p same (one_asked c d same question q p one.question_is two.question_is) a b then then'
 
   pub asks_once : (Then : Controller → Question → Answer → Type 0)
       → ((c d : Controller) (q p : Question) → controller_seen c ≡ controller_seen d → question_seen q ≡ question_seen p
       → (a b : Answer) → Then c q a → Then d p b → a ≡ b)
       → (a b : Answer) → Asks controller question Then a → Asks controller question Then b → a ≡ b
-  asks_once Then once a b (ask_refused one) (ask_refused two) = refused_asking a b one two
-  asks_once Then once a b (ask_refused one) (asked d p two then) = absurd (refused_or_asked a d p one two)
-  asks_once Then once a b (asked c q one then) (ask_refused two) = absurd (refused_or_asked b c q two one)
-  asks_once Then once a b (asked c q one then) (asked d p two then') =
-      let same = one_seen controller one.syntax two.syntax c d one.controller_is two.controller_is in
-      once c d q p same (one_asked c d same question q p one.question_is two.question_is) a b then then'
+  asks_once Then once a b one two = asks_one_of Then Then once a b one two
 
 -- ---- the commands
 

@@ -9,13 +9,14 @@ use Rattle.trace_text.specs.Script.{IsRefused}
 use Rattle.trace_text.specs.Spelling.{IsTraceText}
 use Rattle.question_syntax.specs.Refused as question
 use Rattle.ccac_cli.specs.Reports.{Answer, refused, verdict}
+use Rattle.ccac_cli.specs.Saved.{behind_verdict}
 use Rattle.ccac_cli.specs.Texts.{IsSettingText}
 use Rattle.ccac_cli.specs.declared.reports.Source.TheVariants.{Question, Trace}
 
 -- the one answer to a trace, on the path of a setting
 pub data TraceAnswers (s : Setting) (trace : List ℕ) : Answer → Type 0 where
-  trace_refused : (r : Refusal) → IsRefused trace r → TraceAnswers s trace (refused Trace r)
-  examined : (shape : Shape) (r : Run) → IsTraceText trace shape r → TraceAnswers s trace (verdict (admission s.path r))
+  trace_refused : (r : Refusal) → IsRefused (behind_verdict trace) r → TraceAnswers s trace (refused Trace r)
+  examined : (shape : Shape) (r : Run) → IsTraceText (behind_verdict trace) shape r → TraceAnswers s trace (verdict (admission s.path r))
 
 -- the one answer to these bytes: the question is read first
 pub data AdmitAnswers (bytes trace : List ℕ) : Answer → Type 0 where

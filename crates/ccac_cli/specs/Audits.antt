@@ -1,32 +1,21 @@
 -- What is answered to a controller, a question and a certificate: the first of the texts that is refused, in this order, but the
 -- problem's size comes before the certificate; then what comes of checking the certificate.
-use Rattle.std.specs.Prelude.{◌≡◌, ℕ, ◌||◌, List, length, drop, nat_eq, codes, Result, Ok, Err, if◌then◌else◌}
-use Rattle.std.specs.List.{starts_with}
+use Rattle.std.specs.Prelude.{◌≡◌, ℕ, List, Ok, Err}
 use Rattle.whole.specs.declared.answers.Refusal.{Refusal}
-use Rattle.run_rows.specs.Columns.{entries_of}
 use Rattle.ctrl_types.specs.declared.controllers.Controller.{Controller}
-use Rattle.ctrl_meaning.specs.Flows.{shape_for}
 use Rattle.question_text.specs.declared.questions.Question.{Question}
 use Rattle.farkas_cert.specs.declared.certificates.Cert.{Cert}
-use Rattle.clause_form.specs.Building.{clauses_of, limit_of}
+use Rattle.clause_form.specs.Building.{limit_of}
 use Rattle.clause_form.specs.declared.clauses.Clauses.{Clauses}
 use Rattle.clause_form.specs.declared.clauses.What.{What}
-use Rattle.unroll.specs.Problems.{problem_formulas}
 use Rattle.cert_check.specs.Verdicts.{verdict}
 use Rattle.cert_text.specs.Rules.{IsRefused}
 use Rattle.cert_text.specs.Spelling.{IsCertText, certificate}
+use Rattle.verdict.specs.Problems.{problem_of}
 use Rattle.ccac_cli.specs.Asked.{Asks}
 use Rattle.ccac_cli.specs.Reports.{Answer, check_report, refused, too_large}
+use Rattle.ccac_cli.specs.Saved.{behind_verdict}
 use Rattle.ccac_cli.specs.declared.reports.Source.TheVariants.{Cert as CertFile}
-
--- the text of a certificate in a file: a saved report of a search is a line with its verdict, and then that text
-abbrev pub behind_verdict : List ℕ → List ℕ
-behind_verdict bytes =
-    if starts_with nat_eq bytes (codes "verified\n") || starts_with nat_eq bytes (codes "violated\n") then drop 9 bytes else bytes
-
--- the clauses that have a model exactly where some run violates the question, or the limit that they would pass first
-abbrev pub problem_of : Controller → Question → Result Clauses What
-problem_of c q = clauses_of (length (entries_of (shape_for c q.setting))) (problem_formulas c q)
 
 -- the one answer to a certificate's file, about a problem
 pub data CertAnswers (problem : Clauses) (file : List ℕ) : Answer → Type 0 where

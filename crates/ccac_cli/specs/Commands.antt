@@ -7,6 +7,7 @@ pub data Order : Type 0 where
   admit : List ℕ → List ℕ → Order  -- the question's name, and the trace's
   replay : List ℕ → List ℕ → List ℕ → Order  -- the controller's name, the question's, and the trace's
   audit : List ℕ → List ℕ → List ℕ → Order  -- the controller's name, the question's, and the certificate's
+  check : List ℕ → List ℕ → Order  -- the controller's name, and the question's
   format : List ℕ → Order  -- the controller's name
   format_question : List ℕ → List ℕ → Order  -- the controller's name, and the question's
 
@@ -17,6 +18,7 @@ of_one word one = if bytes_eq word (codes "fmt") then Some (format one) else Non
 abbrev pub of_two : List ℕ → List ℕ → List ℕ → Option Order
 of_two word one two =
     if bytes_eq word (codes "admit") then Some (admit one two)
+    else if bytes_eq word (codes "check") then Some (check one two)
     else if bytes_eq word (codes "fmt") then Some (format_question one two)
     else None
 

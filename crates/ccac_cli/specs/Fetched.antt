@@ -16,6 +16,11 @@ pub record IsFetched (folder : Told) (source : Source) (name bytes : List ℕ) :
   pub told : Tells (folder.content name) bytes
   pub within : length bytes ≤ limit_of source
 
+-- the bytes of a controller and a question
+pub record AreBothFetched (folder : Told) (c q controller question : List ℕ) : Type 0 where
+  pub controller_is : IsFetched folder Controller c controller
+  pub question_is : IsFetched folder Question q question
+
 -- the bytes of a controller, a question and a third file
 pub record AreFetched (folder : Told) (third : Source) (c q t controller question bytes : List ℕ) : Type 0 where
   pub controller_is : IsFetched folder Controller c controller
@@ -33,7 +38,10 @@ pub data Fetches (old new : Told) (source : Source) (name : List ℕ) (Then : Li
   stops : FetchEnds old new source name a → Fetches old new source name Then a
   goes_on : (bytes : List ℕ) → IsFetched old source name bytes → Then bytes a → Fetches old new source name Then a
 
--- no answer, whatever the bytes of three files are
+-- no answer, whatever the bytes of two files are, or of three
+abbrev pub never_two : List ℕ → List ℕ → Answer → Type 0
+never_two controller question a = ⊥
+
 abbrev pub never : List ℕ → List ℕ → List ℕ → Answer → Type 0
 never controller question third a = ⊥
 

@@ -11,7 +11,7 @@ use Rattle.question_text.specs.Texts.{sections_written}
 use Rattle.question_text.specs.declared.questions.Question.{Question}
 use Rattle.ccac_cli.specs.Asked.{Asks}
 use Rattle.ccac_cli.specs.Reports.{Answer, refused}
-use Rattle.ccac_cli.specs.Texts.{IsControllerRefused, IsControllerText}
+use Rattle.asked.specs.Texts.{IsControllerRefused, IsControllerText}
 use Rattle.ccac_cli.specs.declared.reports.Source.TheVariants.{Controller as ControllerFile}
 
 -- a text that is put whole

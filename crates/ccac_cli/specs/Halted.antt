@@ -3,11 +3,14 @@ use Rattle.std.specs.Prelude.{◌≡◌, ℕ, List, Result, Ok, Err}
 use Rattle.whole.specs.declared.answers.ReadFault.{ReadFault}
 use Rattle.whole.specs.declared.answers.ReadFault.TheVariants as fault
 use Rattle.ccac_ports.specs.Ports.{Told}
+use Rattle.asked.specs.declared.asking.AskFault.{AskFault}
+use Rattle.asked.specs.declared.asking.AskFault.TheVariants as unasked
 use Rattle.ccac_cli.specs.Fetched.{FetchEnds}
 use Rattle.ccac_cli.specs.Reports.{Answer, refused}
 use Rattle.ccac_cli.specs.Shown.{shown}
 use Rattle.ccac_cli.specs.declared.reports.Report.{Report as Reported}
 use Rattle.ccac_cli.specs.declared.reports.Source.{Source}
+use Rattle.ccac_cli.specs.declared.reports.Source.TheVariants.{Controller as ControllerFile, Question as QuestionFile}
 use Rattle.ccac_cli.specs.declared.fetching.Halt.{Halt}
 use Rattle.ccac_cli.specs.declared.fetching.Halt.TheVariants.{Report, NoMemory}
 
@@ -23,6 +26,12 @@ HaltsAt old new source name halt = HaltsBy (FetchEnds old new source name) halt
 abbrev pub HaltsAs : Source → ReadFault → Halt → Type 0
 HaltsAs source (fault.Refused refusal) halt = HaltsBy (λ a. a ≡ refused source refusal) halt
 HaltsAs source fault.NoMemory halt = halt ≡ NoMemory
+
+-- it ends by the refusal of the controller or of the question, or as their reading did
+abbrev pub HaltsAsAsked : AskFault → Halt → Type 0
+HaltsAsAsked (unasked.Controller refusal) halt = HaltsBy (λ a. a ≡ refused ControllerFile refusal) halt
+HaltsAsAsked (unasked.Question refusal) halt = HaltsBy (λ a. a ≡ refused QuestionFile refusal) halt
+HaltsAsAsked unasked.NoMemory halt = halt ≡ NoMemory
 
 -- a report that is allowed, or no memory
 abbrev pub Replies : (Answer → Type 0) → Result Reported Halt → Type 0

@@ -1,88 +1,23 @@
 -- What is put with the statuses 0, 1 and 2 says: a case for each command and each of its reports. What a folder tells of the
 -- names is the text of what the report speaks of.
-use Rattle.std.specs.Prelude.{◌≡◌, ℕ, List, Option, Some, Ok, codes}
+use Rattle.std.specs.Prelude.{◌≡◌, ℕ, ◌≤◌, List, Option, Some, codes}
 use Rattle.whole.specs.declared.answers.Stuck.{Stuck}
-use Rattle.run_rows.specs.declared.shapes.Shape.{Shape}
-use Rattle.run_rows.specs.declared.rows.Run.{Run}
 use Rattle.path_server.specs.Places.{IsFirstBroken as IsFirstBrokenRule, IsFirstWide as IsFirstWideRule}
 use Rattle.path_server.specs.Rules.{Admitted}
-use Rattle.path_server.specs.declared.settings.Setting.{Setting}
-use Rattle.ctrl_syntax.specs.declared.syntax.Syntax.{Syntax}
-use Rattle.ctrl_types.specs.declared.controllers.Controller.{Controller}
 use Rattle.question_text.specs.Meaning.{Violates}
-use Rattle.question_text.specs.declared.questions.Question.{Question}
 use Rattle.ctrl_meaning.specs.RunOf.{RunOf}
 use Rattle.trace_replay.specs.Meaning.{IsFirstBroken, IsFirstWide}
 use Rattle.trace_replay.specs.declared.replaying.RunRule.{RunRule}
 use Rattle.trace_replay.specs.declared.replaying.RunRule.TheVariants.{P}
-use Rattle.trace_text.specs.Spelling.{IsTraceText}
-use Rattle.farkas_cert.specs.declared.certificates.Cert.{Cert}
 use Rattle.clause_form.specs.Derivations.{Proves}
-use Rattle.clause_form.specs.declared.clauses.Clauses.{Clauses}
 use Rattle.cert_check.specs.Answers.{IsFirstFault, IsFirstPassing, named}
-use Rattle.cert_text.specs.Spelling.{IsCertText, certificate}
+use Rattle.verdict.specs.Problems.{NoneViolates}
 use Rattle.ccac_ports.specs.Ports.{Appends, Got, Told}
-use Rattle.ccac_cli.specs.Commands.{Order, admit, audit, format, format_question, replay}
-use Rattle.ccac_cli.specs.Fetched.{IsFetched}
+use Rattle.ccac_cli.specs.Commands.{Order, admit, audit, check, format, format_question, replay}
 use Rattle.ccac_cli.specs.Formats.{controller_text, question_text}
-use Rattle.ccac_cli.specs.Asked.{IsAsked}
-use Rattle.ccac_cli.specs.Audits.{behind_verdict, problem_of}
-use Rattle.ccac_cli.specs.Reports.{broken, unproved, wide, wide_sum}
-use Rattle.ccac_cli.specs.Texts.{IsControllerText, IsSettingText}
-use Rattle.ccac_cli.specs.declared.reports.Source.TheVariants.{Controller as ControllerFile, Question as QuestionFile, Trace, Cert as CertFile}
-
--- ---- files that were fetched and read
-
--- a controller under this name
-pub record NamesController (folder : Told) (name : List ℕ) : Type 0 where
-  pub bytes : List ℕ
-  pub fetched : IsFetched folder ControllerFile name bytes
-  pub syntax : Syntax
-  pub controller : Controller
-  pub is : IsControllerText bytes syntax controller
-
--- a controller and a question about it under these names
-pub record NamesQuestion (folder : Told) (controller_name name : List ℕ) : Type 0 where
-  pub asked : NamesController folder controller_name
-  pub bytes : List ℕ
-  pub fetched : IsFetched folder QuestionFile name bytes
-  pub question : Question
-  pub is : IsAsked asked.controller bytes question
-
--- a question's setting under this name
-pub record NamesSetting (folder : Told) (name : List ℕ) : Type 0 where
-  pub bytes : List ℕ
-  pub fetched : IsFetched folder QuestionFile name bytes
-  pub setting : Setting
-  pub is : IsSettingText bytes setting
-
--- a trace under this name
-pub record NamesTrace (folder : Told) (name : List ℕ) : Type 0 where
-  pub bytes : List ℕ
-  pub fetched : IsFetched folder Trace name bytes
-  pub shape : Shape
-  pub run : Run
-  pub is : IsTraceText bytes shape run
-
--- a certificate under this name, alone or in a saved report
-pub record NamesCert (folder : Told) (name : List ℕ) : Type 0 where
-  pub bytes : List ℕ
-  pub fetched : IsFetched folder CertFile name bytes
-  pub cert : Cert
-  pub is : IsCertText (behind_verdict bytes) (certificate cert)
-
--- the clauses of a question under these names, which have a model exactly where some run violates it
-pub record Poses (folder : Told) (controller_name name : List ℕ) : Type 0 where
-  pub asked : NamesQuestion folder controller_name name
-  pub problem : Clauses
-  pub is : problem_of asked.asked.controller asked.question ≡ Ok problem
-
--- no run, whatever its denominator and the size of its numbers, is one of the controller's flows on an admitted path and
--- violates the question
-abbrev pub NoneViolates : Controller → Question → Type 0
-NoneViolates c q = (r : Run) → RunOf c q.setting r → Violates q r → ⊥
-
--- ---- the reports
+use Rattle.ccac_cli.specs.Headline.{Headline}
+use Rattle.ccac_cli.specs.Named.{NamesCert, NamesController, NamesQuestion, NamesSetting, NamesTrace, Poses}
+use Rattle.ccac_cli.specs.Reports.{Answer, broken, unproved, wide, wide_sum}
 
 pub data Means (folder : Told) : Order → ℕ → List ℕ → Type 0 where
   -- the path admits the run; the first rule that the run breaks, at its row and flow; no rule is broken before the comparison on this
@@ -111,6 +46,8 @@ pub data Means (folder : Told) : Order → ℕ → List ℕ → Type 0 where
       → IsFirstFault posed.problem named_cert.cert lemma node cause → Means folder (audit c q k) 1 (unproved (named lemma) (named node) cause).text
   audit_wide : (c q k : List ℕ) (posed : Poses folder c q) (named_cert : NamesCert folder k) (lemma node column : ℕ)
       → IsFirstPassing posed.problem named_cert.cert lemma node column → Means folder (audit c q k) 2 (wide_sum (named lemma) (named node) column).text
+  -- a trace that violates the question, a certificate that no run does, or the journal of a search that was given up
+  checked : (c q : List ℕ) (later : Told) (a : Answer) → a.status ≤ 2 → Headline folder later c q a → Means folder (check c q) a.status a.text
   -- the canonical text of the last named file
   controller_put : (c : List ℕ) (named : NamesController folder c) → Means folder (format c) 0 (controller_text named.syntax)
   question_put : (c q : List ℕ) (named : NamesQuestion folder c q)

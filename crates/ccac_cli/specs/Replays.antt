@@ -11,12 +11,13 @@ use Rattle.trace_text.specs.Spelling.{IsTraceText}
 use Rattle.trace_replay.specs.Replaying.{replaying}
 use Rattle.ccac_cli.specs.Asked.{Asks}
 use Rattle.ccac_cli.specs.Reports.{Answer, refused, replay_verdict}
+use Rattle.ccac_cli.specs.Saved.{behind_verdict}
 use Rattle.ccac_cli.specs.declared.reports.Source.TheVariants.{Trace}
 
 -- the one answer to a trace, where a controller is asked a question
 pub data RunAnswers (trace : List ℕ) (c : Controller) (q : Question) : Answer → Type 0 where
-  trace_refused : (r : Refusal) → IsRefused trace r → RunAnswers trace c q (refused Trace r)
-  replayed : (shape : Shape) (r : Run) → IsTraceText trace shape r → RunAnswers trace c q (replay_verdict (replaying c q r))
+  trace_refused : (r : Refusal) → IsRefused (behind_verdict trace) r → RunAnswers trace c q (refused Trace r)
+  replayed : (shape : Shape) (r : Run) → IsTraceText (behind_verdict trace) shape r → RunAnswers trace c q (replay_verdict (replaying c q r))
 
 -- the one answer to these bytes
 abbrev pub ReplayAnswers : List ℕ → List ℕ → List ℕ → Answer → Type 0

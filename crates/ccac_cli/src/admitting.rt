@@ -6,6 +6,7 @@ ghost use Rattle.ccac_cli.specs.Halted.{Replies};
 use crate::asking::halted;
 use crate::fetching::Halt;
 use crate::reports::{Report, Source};
+use crate::saved::behind_verdict;
 use path_server::{Setting, admits};
 use question_text::read_setting;
 use std::alloc::Global;
@@ -29,7 +30,7 @@ fn admit_trace(alloc: Global, setting: &Setting, trace: &[u8]) -> Result<Report,
     requires trace_in { length trace.now < 2 ^ 32 - 1 }
     ensures { Replies (TraceAnswers setting.now trace.now) result }
 {
-    match read_trace(alloc, trace) {
+    match read_trace(alloc, behind_verdict(trace)) {
         Ok((_shape, run)) => Ok(Report::verdict(alloc, admits(&setting.path, &run))?),
         Err(fault) => Err(halted(alloc, Source::Trace, fault)),
     }

@@ -1,21 +1,13 @@
 ghost use Rattle.std.specs.Prelude.{◌<◌, ◌-◌, ◌^◌, length, IfOk, IfErr};
-ghost use Rattle.ccac_cli.specs.Asked.{AreAsked, AskRefused};
-ghost use Rattle.ccac_cli.specs.Halted.{HaltsAs, HaltsBy};
+ghost use Rattle.asked.specs.Asked.{AreAsked};
+ghost use Rattle.ccac_cli.specs.Asked.{AskRefused};
+ghost use Rattle.ccac_cli.specs.Halted.{HaltsAs, HaltsAsAsked, HaltsBy};
 
-use crate::controllers::read_controller;
 use crate::fetching::Halt;
 use crate::reports::{Report, Source};
-use ctrl_types::Controller;
-use question_text::{Question, read};
+use asked::{AskFault, Asked, ask};
 use std::alloc::Global;
 use whole::ReadFault;
-
-/// A controller and a question about it.
-#[derive(Debug, Drop)]
-pub(crate) struct Asked {
-    pub controller: Controller,
-    pub question: Question,
-}
 
 /// The controller and the question whose texts these are, or the report on the first that is refused.
 pub(crate) fn read_asked(alloc: Global, controller: &[u8], question: &[u8]) -> Result<Asked, Halt>
@@ -24,16 +16,24 @@ pub(crate) fn read_asked(alloc: Global, controller: &[u8], question: &[u8]) -> R
     ensures found { IfOk result (λ asked. AreAsked controller.now question.now asked.controller asked.question) }
     ensures halted { IfErr result (λ halt. HaltsBy (AskRefused controller.now question.now) halt) }
 {
-    let controller = match read_controller(alloc, controller) {
-        Ok((_syntax, controller)) => controller,
-        Err(fault) => return Err(halted(alloc, Source::Controller, fault)),
-    };
-    match read(alloc, question, &controller) {
-        Ok(question) => Ok(Asked {
-            controller,
-            question,
-        }),
-        Err(fault) => Err(halted(alloc, Source::Question, fault)),
+    match ask(alloc, controller, question) {
+        Ok(asked) => Ok(asked),
+        Err(fault) => Err(unasked(alloc, fault)),
+    }
+}
+
+/// How a command ends where its controller or its question is refused.
+fn unasked(alloc: Global, fault: AskFault) -> Halt
+    ensures { HaltsAsAsked fault result }
+{
+    match fault {
+        AskFault::Controller(refusal) => {
+            halted(alloc, Source::Controller, ReadFault::Refused(refusal))
+        }
+        AskFault::Question(refusal) => {
+            halted(alloc, Source::Question, ReadFault::Refused(refusal))
+        }
+        AskFault::NoMemory => Halt::NoMemory,
     }
 }
 

@@ -1,13 +1,15 @@
-ghost use Rattle.std.specs.Prelude.{◌≡◌, ◌<◌, ◌≤◌, ◌-◌, ◌^◌, length};
+ghost use Rattle.std.specs.Prelude.{◌<◌, ◌-◌, ◌^◌, length};
 ghost use Rattle.clause_form.specs.WellFormed.{IsWellFormed};
 ghost use Rattle.ctrl_types.specs.Limits.{IsController};
 ghost use Rattle.question_text.specs.Limits.{IsQuestion};
-ghost use Rattle.ccac_cli.specs.Audits.{AuditAnswers, CertAnswers, ProblemAnswers, behind_verdict};
+ghost use Rattle.ccac_cli.specs.Audits.{AuditAnswers, CertAnswers, ProblemAnswers};
 ghost use Rattle.ccac_cli.specs.Halted.{Replies};
 
-use crate::asking::{Asked, halted, read_asked};
+use crate::asking::{halted, read_asked};
 use crate::fetching::Halt;
 use crate::reports::{Report, Source};
+use crate::saved::behind_verdict;
+use asked::Asked;
 use cert_check::check;
 use cert_text::read_cert;
 use clause_form::{BuildFault, Clauses};
@@ -57,20 +59,5 @@ fn audit_cert(alloc: Global, problem: &Clauses, cert: &[u8]) -> Result<Report, H
     match read_cert(alloc, behind_verdict(cert)) {
         Ok(cert) => Ok(Report::check_report(alloc, check(alloc, problem, &cert))?),
         Err(fault) => Err(halted(alloc, Source::Cert, fault)),
-    }
-}
-
-/// The text of a certificate in a file: what stands behind a first line that is exactly `verified` or `violated`, as in a
-/// saved report of a search, or the whole file.
-fn behind_verdict(bytes: &[u8]) -> &[u8]
-    ensures exact { result.now ≡ behind_verdict bytes.now }
-    ensures no_longer { length result.now ≤ length bytes.now }
-{
-    let verified = b"verified\n".as_slice();
-    let violated = b"violated\n".as_slice();
-    if bytes.starts_with(verified) || bytes.starts_with(violated) {
-        &bytes[verified.len()..]
-    } else {
-        bytes
     }
 }

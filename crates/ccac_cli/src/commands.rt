@@ -23,6 +23,11 @@ pub(crate) enum Command<'a> {
         question: &'a str,
         cert: &'a str,
     },
+    /// Whether a run of a controller violates a question.
+    Check {
+        controller: &'a str,
+        question: &'a str,
+    },
     /// The canonical text of a controller.
     Format {
         controller: &'a str,
@@ -42,6 +47,10 @@ pub(crate) fn command_of(words: &[String]) -> Option<Command<'_>>
         [word, question, trace] if word.as_str() == "admit" => Some(Command::Admit {
             question: question.as_str(),
             trace: trace.as_str(),
+        }),
+        [word, controller, question] if word.as_str() == "check" => Some(Command::Check {
+            controller: controller.as_str(),
+            question: question.as_str(),
         }),
         [word, controller, question, third] => of_three(
             word.as_str(),

@@ -1,6 +1,6 @@
 ghost use Rattle.std.specs.Prelude.{◌≡◌, ◌≤◌, length, IfOk, IfErr};
-ghost use Rattle.ccac_cli.specs.Ended.{had_three};
-ghost use Rattle.ccac_cli.specs.Fetched.{AreFetched, Fetches, IsFetched, IsLater, never};
+ghost use Rattle.ccac_cli.specs.Ended.{had_three, had_two};
+ghost use Rattle.ccac_cli.specs.Fetched.{AreBothFetched, AreFetched, Fetches, IsFetched, IsLater, never, never_two};
 ghost use Rattle.ccac_cli.specs.Halted.{HaltsAt, HaltsBy};
 
 use crate::reports::{Report, Source};
@@ -56,6 +56,32 @@ pub(crate) fn fetch<F: Folder>(
     }
 }
 
+/// The bytes of a controller and a question.
+#[derive(Drop)]
+pub(crate) struct TwoTexts {
+    pub controller: Vec<u8>,
+    pub question: Vec<u8>,
+}
+
+/// The bytes of the two files, which are fetched in this order, or the report on the first that can't be had.
+pub(crate) fn fetch_two<F: Folder>(
+    alloc: Global,
+    folder: &mut F,
+    controller: &str,
+    question: &str,
+) -> Result<TwoTexts, Halt>
+    ensures found { IfOk result (λ texts. AreBothFetched (F.tells folder.old) controller.now question.now texts.controller.items texts.question.items) }
+    ensures halted { IfErr result (λ halt. HaltsBy (had_two (Fetches (F.tells folder.old) (F.tells folder.new)) controller.now question.now never_two) halt) }
+    ensures later { IsLater (F.tells folder.old) (F.tells folder.new) }
+{
+    let controller = fetch(alloc, folder, Source::Controller, controller)?;
+    let question = fetch(alloc, folder, Source::Question, question)?;
+    Ok(TwoTexts {
+        controller,
+        question,
+    })
+}
+
 /// The bytes of a controller, a question and a third file.
 #[derive(Drop)]
 pub(crate) struct ThreeTexts {
@@ -76,12 +102,11 @@ pub(crate) fn fetch_three<F: Folder>(
     ensures found { IfOk result (λ texts. AreFetched (F.tells folder.old) source controller.now question.now third.now texts.controller.items texts.question.items texts.third.items) }
     ensures halted { IfErr result (λ halt. HaltsBy (had_three (Fetches (F.tells folder.old) (F.tells folder.new)) source controller.now question.now third.now never) halt) }
 {
-    let controller = fetch(alloc, folder, Source::Controller, controller)?;
-    let question = fetch(alloc, folder, Source::Question, question)?;
+    let texts = fetch_two(alloc, folder, controller, question)?;
     let third = fetch(alloc, folder, source, third)?;
     Ok(ThreeTexts {
-        controller,
-        question,
+        controller: texts.controller,
+        question: texts.question,
         third,
     })
 }

@@ -3,9 +3,9 @@ ghost use Rattle.ccac_cli.specs.Formats.{FormatAnswers, QuestionFormat};
 ghost use Rattle.ccac_cli.specs.Halted.{Replies};
 
 use crate::asking::{halted, read_asked};
-use crate::controllers::read_controller;
 use crate::fetching::Halt;
 use crate::reports::{Report, Source};
+use asked::read_controller;
 use ctrl_syntax::print;
 use question_text::print as print_question;
 use std::alloc::Global;

@@ -4,14 +4,15 @@
 mod admitting;
 mod asking;
 mod auditing;
+mod checking;
 mod commands;
-mod controllers;
 mod fetching;
 mod formatting;
 mod laws;
 mod replaying;
 mod reports;
 mod running;
+mod saved;
 #[cfg(test)]
 mod tests;
 

@@ -4,9 +4,11 @@ ghost use Rattle.ccac_cli.specs.Replays.{ReplayAnswers, RunAnswers};
 ghost use Rattle.ctrl_types.specs.Limits.{IsController};
 ghost use Rattle.question_text.specs.Limits.{IsQuestion};
 
-use crate::asking::{Asked, halted, read_asked};
+use crate::asking::{halted, read_asked};
 use crate::fetching::Halt;
 use crate::reports::{Report, Source};
+use crate::saved::behind_verdict;
+use asked::Asked;
 use std::alloc::Global;
 use trace_replay::{read_trace, replay as replay_run};
 
@@ -36,7 +38,7 @@ fn replay_trace(alloc: Global, asked: &Asked, trace: &[u8]) -> Result<Report, Ha
     requires trace_in { length trace.now < 2 ^ 32 - 1 }
     ensures { Replies (RunAnswers trace.now asked.now.controller asked.now.question) result }
 {
-    match read_trace(alloc, trace) {
+    match read_trace(alloc, behind_verdict(trace)) {
         Ok((_shape, run)) => {
             let found = replay_run(&asked.controller, &asked.question, &run);
             Ok(Report::replay_verdict(alloc, found)?)

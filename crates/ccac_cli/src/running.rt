@@ -1,7 +1,8 @@
-ghost use Rattle.std.specs.Prelude.{◌≡◌, ◌≤◌, ◌⊎◌, ℕ, IfOk, None, Some, map, string_bytes};
+ghost use Rattle.std.specs.Prelude.{◌≡◌, ◌≤◌, ◌⊎◌, ℕ, List, IfOk, None, Some, map, string_bytes};
 ghost use Rattle.ccac_ports.specs.Ports.{HasRisen};
-ghost use Rattle.ccac_cli.specs.Commands.{Order, admit, audit, format, format_question, order_of, replay};
-ghost use Rattle.ccac_cli.specs.Ended.{Answers, Ends, IsAnswered, ToldAnswers};
+ghost use Rattle.ccac_cli.specs.Commands.{Order, admit, audit, check, format, format_question, order_of, replay};
+ghost use Rattle.ccac_cli.specs.Ended.{Answers, CanCheck, Ends, IsAnswered, ToldAnswers};
+ghost use Rattle.ccac_cli.specs.Headline.{Headline};
 ghost use Rattle.ccac_cli.specs.Meaning.{IsMeant};
 ghost use Rattle.ccac_cli.specs.Ordered.{ordered};
 ghost use Rattle.ccac_cli.specs.Reports.{Answer};
@@ -10,8 +11,9 @@ ghost use Rattle.ccac_cli.specs.Shown.{shown};
 
 use crate::admitting::admit;
 use crate::auditing::audit;
+use crate::checking::check;
 use crate::commands::{Command, command_of};
-use crate::fetching::{Halt, fetch, fetch_three};
+use crate::fetching::{Halt, fetch, fetch_three, fetch_two};
 use crate::formatting::{format, format_question};
 use crate::replaying::replay;
 use crate::reports::{Report, Source};
@@ -22,6 +24,9 @@ use whole::NoMemory;
 /// Carries out the words of a command line, those after the program's name: fetches the files that they name,
 /// puts the report by one call, and gives the status.
 ///
+/// `check CTRL QUEST` reports `verified` and a certificate that no run violates the question with 0, `violated` and the trace of
+/// a run that does with 1, and with 2 `unknown budget`, or `unknown wide` and the operation whose result passes 128 bits,
+/// and the journal of the search. `audit`, `replay` and `admit` take such a report as the file of its certificate or trace.
 /// `admit QUEST TRACE` reports `admitted` with 0, `broken RULE row I flow F` with 1, and `wide row I` with 2.
 /// `replay CTRL QUEST TRACE` reports `violating` with 0, `keeps` or `broken RULE row I flow F` with 1, and `wide row I`
 /// with 2. `audit CTRL QUEST CERT` reports `proved` with 0, `fails lemma N node M cause Kk` with 1, and `wide lemma N node M
@@ -36,6 +41,10 @@ pub fn run<F: Folder, S: Sink>(
 ) -> u8
     ensures ended { Ends (Answers (F.tells folder.old) (F.tells folder.new) (order_of (map string_bytes words.now.items))) (S.got out.old) (S.got out.new) result }
 
+    // What `check` comes to, phrase by phrase in the words of the sentence that says what the program does.
+    ensures headline { (c q : List ℕ) → order_of (map string_bytes words.now.items) ≡ Some (check c q)
+        → Ends (Headline (F.tells folder.old) (F.tells folder.new) c q) (S.got out.old) (S.got out.new) result }
+
     // What was put with 0, 1 and 2 means what this status says, of the files that the folder tells.
     ensures means { result ≤ 2 → IsMeant (F.tells folder.old) (order_of (map string_bytes words.now.items)) (S.got out.old) (S.got out.new) result }
 
@@ -43,6 +52,10 @@ pub fn run<F: Folder, S: Sink>(
     ensures complete { (order : Order) (a : Answer) → order_of (map string_bytes words.now.items) ≡ Some order
         → ToldAnswers (F.tells folder.old) (F.tells folder.new) order a → (HasRisen (S.got out.old).faults (S.got out.new).faults → ⊥)
         → IsAnswered a (S.got out.old) (S.got out.new) result }
+
+    // A question that is told, with its controller, and whose problem isn't too large, is decided: with 0, 1 or 2.
+    ensures decided { (c q : List ℕ) → order_of (map string_bytes words.now.items) ≡ Some (check c q) → CanCheck (F.tells folder.old) (F.tells folder.new) c q
+        → (HasRisen (S.got out.old).faults (S.got out.new).faults → ⊥) → (result ≤ 2) ⊎ (result ≡ 7) }
     ensures no_command { result ≡ 4 → order_of (map string_bytes words.now.items) ≡ None }
     ensures usage { order_of (map string_bytes words.now.items) ≡ None → (result ≡ 4) ⊎ (result ≡ 6) ⊎ (result ≡ 7) }
 {
@@ -85,6 +98,10 @@ fn carried_out<F: Folder>(
             question,
             cert,
         } => audit_files(alloc, folder, controller, question, cert),
+        Command::Check {
+            controller,
+            question,
+        } => check_files(alloc, folder, controller, question),
         Command::Format { controller } => format_file(alloc, folder, controller),
         Command::FormatQuestion {
             controller,
@@ -145,6 +162,23 @@ fn audit_files<F: Folder>(
     )
 }
 
+/// Fetches both files, the controller's first, and answers to them.
+fn check_files<F: Folder>(
+    alloc: Global,
+    folder: &mut F,
+    controller: &str,
+    question: &str,
+) -> Result<Report, Halt>
+    ensures { Settled (F.tells folder.old) (F.tells folder.new) (check controller.now question.now) result }
+{
+    let texts = fetch_two(alloc, folder, controller, question)?;
+    check(
+        alloc,
+        texts.controller.as_slice(),
+        texts.question.as_slice(),
+    )
+}
+
 /// Fetches the controller, and answers to it.
 fn format_file<F: Folder>(alloc: Global, folder: &mut F, controller: &str) -> Result<Report, Halt>
     ensures { Settled (F.tells folder.old) (F.tells folder.new) (format controller.now) result }
@@ -162,12 +196,11 @@ fn format_files<F: Folder>(
 ) -> Result<Report, Halt>
     ensures { Settled (F.tells folder.old) (F.tells folder.new) (format_question controller.now question.now) result }
 {
-    let controller_bytes = fetch(alloc, folder, Source::Controller, controller)?;
-    let question_bytes = fetch(alloc, folder, Source::Question, question)?;
+    let texts = fetch_two(alloc, folder, controller, question)?;
     format_question(
         alloc,
-        controller_bytes.as_slice(),
-        question_bytes.as_slice(),
+        texts.controller.as_slice(),
+        texts.question.as_slice(),
     )
 }
 

@@ -41,6 +41,13 @@ const ASSUMING: &str =
 const HALVES: &str =
     trace!("over 2" "credit 0" "row 0 0" "flow 1 4 0 0" "row 1 0" "flow 1 4 1 0" "row 2 0" "flow 1 4 2 0" "row 3 0" "flow 1 4 3 0");
 
+/// The same behind a line of a saved report.
+macro_rules! saved_halves {
+    ($first:literal) => {
+        concat!($first, "ccac-trace 1\nshape 1 0 2 1\nover 2\ncredit 0\nrow 0 0\nflow 1 4 0 0\nrow 1 0\nflow 1 4 1 0\nrow 2 0\nflow 1 4 2 0\nrow 3 0\nflow 1 4 3 0\nend\n")
+    };
+}
+
 const WHOLES: &str =
     trace!("over 1" "credit 0" "row 0 0" "flow 1 4 0 0" "row 1 0" "flow 1 4 1 0" "row 2 0" "flow 1 4 2 0" "row 3 0" "flow 1 4 3 0");
 
@@ -560,5 +567,162 @@ fn a_certificate_that_is_missing_is_named(rt: HostRuntime) -> Result<(), Fail> {
     let mut folder = folder_of_halves(rt.alloc())?;
     assert_eq!(rt; folder.add("c", FIXED_WINDOW.as_bytes()), Ok(()));
     assert_ends!(rt; ["audit", "c", "q", "missing"], folder, 5, "read fault cert\n");
+    Ok(())
+}
+
+const STEADY: &str =
+    question!("rate 1" "jitter 0" "rtt 1" "buffer none" "budget 100000" "require S@1 - S@0 <= 1");
+
+const HURRIED: &str =
+    question!("rate 1" "jitter 0" "rtt 1" "buffer none" "budget 1" "require S@1 - S@0 <= 1");
+
+/// A controller and a question as the generator of inputs makes them.
+const THREE_STATES: &str =
+    "ccac-controller 1\nstate s1 data init 2 4\nstate s2 data init 2 2\nstate s3 data init 2 3\nrule when lost > 0\nset s1 = 3 * s1 + 0/3\nset s2 = 1/4 * s2 + 0/4\nset s3 = 2/2 * s3 + 1/3\nrule otherwise\nwindow s1\nend\n";
+
+const THREE_STATES_ASKED: &str =
+    "ccac-question 1\nflows 1\nsteps 1\nrate 1\njitter 2\nrtt 2\nbuffer 1\nbudget 2000\nrequire S@1 - S@0 >= 2\nend\n";
+
+/// A folder with this controller `c` and this question `q`.
+fn folder_of(alloc: Global, controller: &str, question: &str) -> Result<MemFolder, Fail> {
+    let mut folder = MemFolder::new(alloc);
+    folder.add("c", controller.as_bytes())?;
+    folder.add("q", question.as_bytes())?;
+    Ok(folder)
+}
+
+/// A controller, a question, and the least and the greatest status to which `check` may come.
+type Asked = (&'static str, &'static str, u8, u8);
+
+const SMALL: [Asked; 5] = [
+    // A server that is never late serves at most one unit in a step, and never two.
+    (FIXED_WINDOW, FASTER, 1, 1),
+    (FIXED_WINDOW, STEADY, 0, 0),
+    // One that may be a step late can make up for it.
+    (FIXED_WINDOW, SMOOTH, 1, 1),
+    // Of two rules that hold the first fires.
+    (FIRST_RULE, FASTER, 1, 1),
+    (THREE_STATES, THREE_STATES_ASKED, 0, 2),
+];
+
+/// What is required of no run is violated by the runs that there are.
+const LARGER: [Asked; 2] = [(HALVING, PROGRESS, 0, 2), (HALVING, ANY_RUN, 1, 2)];
+
+/// The word of the command that reads what `check` saves with this status, what it then reports, and the first line of what
+/// is saved.
+fn confirmation(status: u8) -> (&'static str, &'static str, &'static str) {
+    match status {
+        0 => ("audit", "proved\n", "verified\n"),
+        1 => ("replay", "violating\n", "violated\n"),
+        _ => ("replay", "refused trace V1 line 1\n", "unknown "),
+    }
+}
+
+/// Asserts that `check` comes to such a status, and that what it saves is then confirmed.
+macro_rules! assert_confirmed {
+    ($rt:ident; $asked:expr) => {
+        let (controller, question, least, greatest) = $asked;
+        let mut folder = folder_of($rt.alloc(), controller, question)?;
+        let (status, report) = ended($rt.alloc(), &["check", "c", "q"], &mut folder)?;
+        assert!($rt; least <= status && status <= greatest);
+        let (word, confirmed, head) = confirmation(status);
+        assert!($rt; report.as_slice().starts_with(head.as_bytes()));
+        folder.add("saved", report.as_slice())?;
+        let (_status, answer) = ended($rt.alloc(), &[word, "c", "q", "saved"], &mut folder)?;
+        assert_eq!($rt; answer.as_slice(), confirmed.as_bytes());
+    };
+}
+
+#[test]
+fn each_verdict_is_confirmed_from_its_saved_report(rt: HostRuntime) -> Result<(), Fail> {
+    for asked in SMALL {
+        assert_confirmed!(rt; asked);
+    }
+    Ok(())
+}
+
+#[test]
+fn larger_verdicts_are_confirmed_too(rt: HostRuntime) -> Result<(), Fail> {
+    for asked in LARGER {
+        assert_confirmed!(rt; asked);
+    }
+    Ok(())
+}
+
+#[test]
+fn what_a_search_gives_up_or_proves_is_about_its_own_question(rt: HostRuntime) -> Result<(), Fail> {
+    let mut folder = folder_of(rt.alloc(), FIXED_WINDOW, STEADY)?;
+    let (_status, report) = ended(rt.alloc(), &["check", "c", "q"], &mut folder)?;
+    folder.add("saved", report.as_slice())?;
+    folder.add("q", FASTER.as_bytes())?;
+    let (status, answer) = ended(rt.alloc(), &["audit", "c", "q", "saved"], &mut folder)?;
+    assert_eq!(rt; status, 1);
+    assert!(rt; answer.as_slice().starts_with(b"fails ".as_slice()));
+    // Nothing may be decided while a clause of one literal is left, so the one move of this budget is a propagation.
+    folder.add("q", HURRIED.as_bytes())?;
+    let (status, report) = ended(rt.alloc(), &["check", "c", "q"], &mut folder)?;
+    assert_eq!(rt; status, 2);
+    assert!(rt;
+        report
+            .as_slice()
+            .starts_with(b"unknown budget\ncounts 0 1 0 0\np ".as_slice())
+    );
+    assert!(rt; report.as_slice().ends_with(b"\nend\n".as_slice()));
+    Ok(())
+}
+
+#[test]
+fn what_check_is_given_is_refused_in_order(rt: HostRuntime) -> Result<(), Fail> {
+    let words = ["check", "c", "q"];
+    let mut large = folder_of(rt.alloc(), EIGHT_STATES, FOUR_FLOWS)?;
+    assert_ends!(rt; words, large, 3, "refused large forms 2048\n");
+    let mut empty = folder_of(rt.alloc(), "", STEADY)?;
+    assert_ends!(rt; words, empty, 3, "refused controller G1 line 1\n");
+    let mut unasked = folder_of(rt.alloc(), FIXED_WINDOW, LATE_STEP)?;
+    assert_ends!(rt; words, unasked, 3, "refused question Q12 line 9\n");
+    let mut second_fails = folder_of(rt.alloc(), FIXED_WINDOW, STEADY)?;
+    assert_eq!(rt; second_fails.fail_at(2), Ok(()));
+    assert_ends!(rt; words, second_fails, 5, "read fault question\n");
+    let long = vec![in rt.alloc(); b'a'; 65_537]?;
+    assert_eq!(rt; large.add("q", long.as_slice()), Ok(()));
+    assert_ends!(rt; words, large, 3, "refused question too long\n");
+    assert_eq!(rt; large.add("c", long.as_slice()), Ok(()));
+    assert_ends!(rt; words, large, 3, "refused controller too long\n");
+    assert_ends!(rt; ["chec", "c", "q"], large, 4, "usage\n");
+    assert_ends!(rt; ["check", "c", "q", "t"], large, 4, "usage\n");
+    Ok(())
+}
+
+#[test]
+fn a_verdict_can_be_cut_short_by_the_sink(rt: HostRuntime) -> Result<(), Fail> {
+    let words = words_of(rt.alloc(), &["check", "c", "q"])?;
+    let mut folder = folder_of(rt.alloc(), FIXED_WINDOW, STEADY)?;
+    let mut sink = MemSink::new(rt.alloc());
+    assert_eq!(rt; sink.fail_at(1, 4), Ok(()));
+    assert_eq!(rt; run(rt.alloc(), &words, &mut folder, &mut sink), 6);
+    assert_eq!(rt; sink.text(), b"veri".as_slice());
+    Ok(())
+}
+
+/// A saved trace, and the report of `admit` on it.
+const SAVED: [(&str, &str); 5] = [
+    (saved_halves!("violated\n"), "admitted\n"),
+    (saved_halves!("verified\n"), "admitted\n"),
+    (saved_halves!("violated \n"), "refused trace V1 line 1\n"),
+    (
+        saved_halves!("violated\nviolated\n"),
+        "refused trace V1 line 1\n",
+    ),
+    ("violated", "refused trace V6 line 1\n"),
+];
+
+#[test]
+fn the_line_of_a_verdict_is_skipped_and_not_counted(rt: HostRuntime) -> Result<(), Fail> {
+    for (trace, report) in SAVED {
+        let mut folder = folder_of_halves(rt.alloc())?;
+        folder.add("t", trace.as_bytes())?;
+        let (_status, answer) = ended(rt.alloc(), &["admit", "q", "t"], &mut folder)?;
+        assert_eq!(rt; answer.as_slice(), report.as_bytes());
+    }
     Ok(())
 }

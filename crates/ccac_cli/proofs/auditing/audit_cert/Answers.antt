@@ -4,7 +4,8 @@ use Rattle.farkas_cert.specs.declared.certificates.Cert.{Cert}
 use Rattle.cert_check.specs.Verdicts.{verdict}
 use Rattle.cert_text.specs.Rules.{IsRefused}
 use Rattle.cert_text.specs.Spelling.{IsCertText, certificate}
-use Rattle.ccac_cli.specs.Audits.{CertAnswers, behind_verdict, cert_refused, checked}
+use Rattle.ccac_cli.specs.Saved.{behind_verdict}
+use Rattle.ccac_cli.specs.Audits.{CertAnswers, cert_refused, checked}
 use Rattle.ccac_cli.specs.Reports.{Answer, check_report}
 use Rattle.ccac_cli.specs.declared.reports.Source.TheVariants.{Cert as CertFile}
 use Rattle.ccac_cli.proofs.CheckReports.{check_reported}

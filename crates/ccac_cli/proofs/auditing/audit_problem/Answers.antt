@@ -5,9 +5,10 @@ use Rattle.clause_form.specs.Answers.{Fails}
 use Rattle.clause_form.specs.declared.clauses.BuildFault.{BuildFault}
 use Rattle.clause_form.specs.declared.clauses.BuildFault.TheVariants.{Large}
 use Rattle.clause_form.specs.declared.clauses.What.{What}
-use Rattle.ccac_cli.specs.Audits.{CertAnswers, ProblemAnswers, large, problem_of, unrolled}
+use Rattle.verdict.specs.Problems.{problem_of}
+use Rattle.ccac_cli.specs.Audits.{CertAnswers, ProblemAnswers, large, unrolled}
 use Rattle.ccac_cli.specs.Reports.{Answer, too_large}
-use Rattle.ccac_cli.proofs.AuditLaws.{can_unroll}
+use Rattle.verdict.proofs.ProblemLaws.{can_unroll}
 use Rattle.ccac_cli.proofs.HaltLaws.{replies_so}
 use Rattle.ccac_cli.proofs.auditing.audit_problem.Goals as goal
 

@@ -3,7 +3,7 @@ use Rattle.ctrl_syntax.specs.declared.syntax.Syntax.{Syntax}
 use Rattle.ctrl_types.specs.declared.controllers.Controller.{Controller}
 use Rattle.ccac_cli.specs.Formats.{FormatAnswers, controller_put, controller_refused, controller_text, formatted}
 use Rattle.ccac_cli.specs.Reports.{Answer}
-use Rattle.ccac_cli.specs.Texts.{IsControllerText}
+use Rattle.asked.specs.Texts.{IsControllerText}
 use Rattle.ccac_cli.specs.declared.reports.Source.TheVariants.{Controller as ControllerFile}
 use Rattle.ccac_cli.proofs.HaltLaws.{refusal_halts}
 use Rattle.ccac_cli.proofs.formatting.format.Goals as goal

@@ -1,7 +1,8 @@
 use Rattle.std.proofs.Common.{◌≡◌, ap, ◌∙◌, ℕ, List}
 use Rattle.ctrl_types.specs.declared.controllers.Controller.{Controller}
 use Rattle.question_text.specs.declared.questions.Question.{Question}
-use Rattle.ccac_cli.specs.Asked.{AreAsked, asked}
+use Rattle.asked.specs.Asked.{AreAsked}
+use Rattle.ccac_cli.specs.Asked.{asked}
 use Rattle.ccac_cli.specs.Formats.{QuestionFormat, formatted, question_text}
 use Rattle.ccac_cli.specs.Reports.{Answer}
 use Rattle.ccac_cli.proofs.formatting.format_question.Goals as goal

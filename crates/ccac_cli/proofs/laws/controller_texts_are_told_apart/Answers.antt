@@ -1,4 +1,4 @@
-use Rattle.ccac_cli.proofs.ControllerTexts.{either_controller, one_refusal, not_both}
+use Rattle.asked.proofs.ControllerTexts.{either_controller, one_refusal, not_both}
 use Rattle.ccac_cli.proofs.laws.controller_texts_are_told_apart.Goals as goal
 
 pub returns-clause-one_refusal : goal.returns-clause-one_refusal

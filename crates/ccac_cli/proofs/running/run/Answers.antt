@@ -3,7 +3,9 @@ use Rattle.ccac_ports.specs.Ports.{Told}
 use Rattle.ccac_cli.specs.Commands.{order_of}
 use Rattle.ccac_cli.specs.Ended.{Answers, no_memory}
 use Rattle.ccac_cli.specs.Reports.{Answer}
+use Rattle.ccac_cli.proofs.CheckEnds.{check_decided}
 use Rattle.ccac_cli.proofs.EndLaws.{ends_by_usage, ends_delivered, nothing_put, told_answered, usage_ends}
+use Rattle.ccac_cli.proofs.HeadlineLaws.{headline_ends}
 use Rattle.ccac_cli.proofs.MeaningLaws.{status_meant}
 use Rattle.ccac_cli.proofs.running.run.Goals as goal
 
@@ -18,8 +20,10 @@ returns-in-Ok g c =
     let ends = ends_delivered _ _ _ _ _ (to_words _ _ _ _ _ _ c.as_slice.ensures.value c.in-Ok.ensures) c.deliver.ensures in
     record {
       ended = ends;
+      headline = headline_ends _ _ _ _ _ _ ends;
       means = status_meant _ _ _ _ _ _ ends;
       complete = told_answered _ _ _ _ _ _ ends;
+      decided = check_decided _ _ _ _ _ _ ends;
       no_command = ends_by_usage _ _ _ _ _ _ ends;
       usage = usage_ends _ _ _ _ _ _ ends;
     }
@@ -27,8 +31,10 @@ returns-in-Ok g c =
 pub returns-in-Err : goal.returns-in-Err
 returns-in-Err g c = record {
   ended = no_memory (nothing_put (g.S.Sink.got c.args.out.now).text);
+  headline = λ one two is. no_memory (nothing_put (g.S.Sink.got c.args.out.now).text);
   means = λ e. absurd (omega arith);
   complete = λ order a is told calm. inr refl;
+  decided = λ one two is can calm. inr refl;
   no_command = λ e. absurd (omega arith);
   usage = λ e. inr (inr refl);
 }
