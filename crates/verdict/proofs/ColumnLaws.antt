@@ -1,6 +1,6 @@
 -- Clauses are made over the columns that they were asked for: no step changes their number.
-use Rattle.std.proofs.Common.{◌≡◌, ◌∙◌, ℕ, Bool, true, false, List, [], ◌∷◌, ◌++◌, length, map, Option, None, Some, Result, Ok, Err, refl, subst, sym, ap}
-use Rattle.std.specs.Prelude.{◌-◌, ◌+◌, nat_lt, not, if◌then◌else◌}
+use Rattle.std.proofs.Common.{◌≡◌, ℕ, Bool, true, false, List, [], ◌∷◌, length, map, Option, None, Some, Result, Ok, Err, refl, subst}
+use Rattle.std.specs.Prelude.{◌-◌, ◌+◌, nat_lt, if◌then◌else◌}
 use Rattle.condition_tree.specs.Trees.{Tree, always, never, leaf, opposite, end_of_all, all_of, end_of_any, any_of}
 use Rattle.linear_form.specs.declared.lists.Form.{Form}
 use Rattle.linear_form.specs.declared.relations.Comparison.{Comparison}

@@ -1,11 +1,9 @@
 -- What is found of a problem is a verdict on the question that poses it.
-use Rattle.std.proofs.Common.{◌≡◌, ◌∙◌, ℕ, ◌<◌, ◌≤◌, ℤ, pos, unsigned_abs, Bool, List, length, inl, inr, Result, Ok, Err, refl, sym, ap, subst, arith}
-use Rattle.whole.specs.declared.answers.Stuck.{Stuck}
+use Rattle.std.proofs.Common.{◌≡◌, ◌∙◌, ℕ, ℤ, pos, unsigned_abs, List, length, inr, Result, Ok, Err, sym, ap, subst}
 use Rattle.claims.specs.Columns.{run_of}
 use Rattle.linear_form.specs.Sums.{entry}
 use Rattle.run_rows.specs.Columns.{entries_of}
 use Rattle.run_rows.specs.Limits.{IsWithin}
-use Rattle.run_rows.specs.Runs.{Bounded, Fits}
 use Rattle.run_rows.specs.declared.rows.Run.{Run}
 use Rattle.run_rows.specs.declared.shapes.Shape.{Shape}
 use Rattle.ctrl_types.specs.Limits.{IsController}
@@ -22,24 +20,20 @@ use Rattle.clause_form.specs.WellFormed.{IsWellFormed}
 use Rattle.clause_form.specs.declared.clauses.BuildFault.{BuildFault}
 use Rattle.clause_form.specs.declared.clauses.BuildFault.TheVariants.{Large, NoMemory as OutOfMemory}
 use Rattle.clause_form.specs.declared.clauses.Clauses.{Clauses}
-use Rattle.clause_form.specs.declared.clauses.What.{What}
 use Rattle.cert_check.specs.Verdicts.{proved}
 use Rattle.cert_check.specs.Verdicts as checks
 use Rattle.cert_check.proofs.VerdictLaws.{each_has_a_verdict}
 use Rattle.trace_replay.specs.Replaying.{replaying}
-use Rattle.trace_replay.specs.declared.replaying.Replayed.{Replayed}
-use Rattle.trace_replay.specs.declared.replaying.Replayed.TheVariants.{Violating, Wide}
+use Rattle.trace_replay.specs.declared.replaying.Replayed.TheVariants.{Violating}
 use Rattle.unroll.specs.Problems.{IsViolation}
 use Rattle.unroll.specs.declared.problems.Problem.{Problem}
 use Rattle.unroll.proofs.ProblemLaws.{over_is, over_some}
 use Rattle.lra_solve.specs.Solving.{IsLightProof}
 use Rattle.lra_solve.specs.declared.solved.Spent.{Spent}
-use Rattle.verdict.specs.Deciding.{Decides, IsFoundRun}
-use Rattle.verdict.specs.Judging.{Concludes, IsReplayed, IsVerified, IsViolated, IsWideReplay, Judges, Says, of_asking, of_building}
+use Rattle.verdict.specs.Deciding.{IsFoundRun}
+use Rattle.verdict.specs.Judging.{Concludes, IsReplayed, IsVerified, IsViolated, Judges, Says, of_asking, of_building}
 use Rattle.verdict.specs.LightCerts.{IsCertificate}
 use Rattle.verdict.specs.Problems.{IsProblemOf, problem_of}
-use Rattle.verdict.specs.declared.deciding.Decided.{Decided}
-use Rattle.verdict.specs.declared.deciding.Decided.TheVariants as decided
 use Rattle.verdict.specs.declared.judging.JudgeFault.{JudgeFault}
 use Rattle.verdict.specs.declared.judging.JudgeFault.TheVariants as judging
 use Rattle.verdict.specs.declared.judging.Verdict.{Verdict}

@@ -17,9 +17,9 @@ use Rattle.clause_form.specs.Derivations.{ArePartsOf, Closes, EndsEmpty, Follow,
 use Rattle.clause_form.specs.WellFormed.{IsWellFormed}
 use Rattle.clause_form.specs.declared.clauses.Atom.{Atom}
 use Rattle.clause_form.specs.declared.clauses.Clauses.{Clauses}
-use Rattle.learned_clause.specs.LightTrees.{AreWithin, HasLightLeaves, IsLight, IsLightSum, depth}
+use Rattle.learned_clause.specs.LightTrees.{AreWithin, HasLightLeaves, depth}
 use Rattle.clause_search.specs.Answers.{AreLight}
-use Rattle.cert_check.specs.Causes.{Event, asked, end_event, events, founds, has_sizes, is_contradiction, is_empty, is_false_on, is_free, is_on_path, lemma_events, names_once, truth_on, lemma_founds, numbered, number_at, of_cited, of_leaf, of_part, of_parts, of_rows, of_split, of_sum, of_sums, then_ask}
+use Rattle.cert_check.specs.Causes.{Event, asked, end_event, events, founds, has_sizes, is_contradiction, is_empty, is_false_on, is_free, is_on_path, lemma_events, names_once, truth_on, lemma_founds, numbered, number_at, of_cited, of_leaf, of_part, of_parts, of_rows, of_sum, of_sums, then_ask}
 use Rattle.cert_check.specs.Verdicts.{EachFound, IsSound, StaysWithin, Verdict, fails, first_of, proved, wide}
 use Rattle.cert_check.proofs.FirstLaws.{Each, Each-append, EachFound-append, EachFound-numbered, first_sound, sound_first}
 use Rattle.cert_check.proofs.LemmaLaws.{then_fault}

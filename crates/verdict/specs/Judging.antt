@@ -1,6 +1,5 @@
 -- What a verdict on a question means, and when there is none.
 use Rattle.std.specs.Prelude.{◌≡◌, ℕ, ◌⊎◌, List, Result, Ok, Err}
-use Rattle.whole.specs.declared.answers.Refusal.{Refusal}
 use Rattle.whole.specs.declared.answers.Stuck.{Stuck}
 use Rattle.run_rows.specs.Runs.{Fits}
 use Rattle.run_rows.specs.Limits.{IsWithin}

@@ -1,6 +1,4 @@
 -- Certificates that a file can hold and a checker can add up.
-use Rattle.std.specs.Prelude.{ℕ, ◌+◌, ◌≤◌, ◌^◌, List, [], ◌∷◌, length}
-use Rattle.farkas_cert.specs.Trees.{Derived, lemmas_of}
 use Rattle.farkas_cert.specs.declared.certificates.Cert.{Cert}
 use Rattle.clause_form.specs.Derivations.{Proves}
 use Rattle.clause_form.specs.declared.clauses.Clauses.{Clauses}
