@@ -20,6 +20,23 @@ def seconds(command):
     return (time.perf_counter() - start) / CALLS
 
 
+def used(command, calls=9):
+    """The processor time of a call: the least of some, which other work on the machine changes little."""
+    times = []
+    for _ in range(calls):
+        child = subprocess.Popen(command, stdout=subprocess.DEVNULL)
+        _, status, usage = os.wait4(child.pid, 0)
+        child.returncode = os.waitstatus_to_exitcode(status)
+        times.append(usage.ru_utime + usage.ru_stime)
+    return min(times)
+
+
+def peak(command):
+    """The most bytes that a call has in memory."""
+    done = subprocess.run(["/usr/bin/time", "-f", "%M", *command], stdout=subprocess.DEVNULL, stderr=subprocess.PIPE, text=True)
+    return int(done.stderr.split()[-1]) * 1024
+
+
 def report(command):
     """The status and the first line of what a call puts."""
     done = subprocess.run(command, capture_output=True, text=True)
