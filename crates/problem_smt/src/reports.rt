@@ -1,0 +1,109 @@
+ghost use Rattle.std.specs.Prelude.{◌≡◌};
+ghost use Rattle.problem_smt.specs.Reports.{size_word};
+
+use clause_form::What;
+use std::alloc::{AllocError, Global};
+use whole::Refusal;
+
+/// A file that is read, as reports name it.
+#[derive(Clone, Copy, Debug, PartialEq, Eq)]
+pub(crate) enum Source {
+    Controller,
+    Question,
+}
+
+/// What is put, and the status that goes with it.
+#[derive(Debug, Drop)]
+pub(crate) struct Report {
+    pub status: u8,
+    pub text: Vec<u8>,
+}
+
+impl Source {
+    ghost use Rattle.std.specs.Prelude.{◌≡◌};
+    ghost use Rattle.problem_smt.specs.Reports.{word_of};
+
+    pub(crate) fn word(self) -> &'static str
+        ensures { result.now ≡ word_of self }
+    {
+        match self {
+            Source::Controller => "controller",
+            Source::Question => "question",
+        }
+    }
+}
+
+impl Report {
+    ghost use Rattle.std.specs.Prelude.{◌≡◌, IfOk, string_bytes};
+    ghost use Rattle.problem_smt.specs.Reports.{read_fault, refused, too_large, too_long, usage};
+    ghost use Rattle.problem_smt.specs.Shown.{shown};
+
+    /// The report with this status and this line.
+    fn line(status: u8, line: String) -> Report
+        ensures { shown result ≡ record { status = status; text = string_bytes line } }
+    {
+        Report {
+            status,
+            text: line.into_bytes(),
+        }
+    }
+
+    #[tactic(auto, unfolding(crate::specs::Reports::usage))]
+    pub(crate) fn usage(alloc: Global) -> Result<Report, AllocError>
+        ensures { IfOk result (λ report. shown report ≡ usage) }
+    {
+        let text = String::from_str(alloc, "usage: problem_smt [--counts] CTRL QUEST\n")?;
+        Ok(Report::line(4, text))
+    }
+
+    #[tactic(auto, unfolding(crate::specs::Reports::read_fault))]
+    pub(crate) fn read_fault(alloc: Global, source: Source) -> Result<Report, AllocError>
+        ensures { IfOk result (λ report. shown report ≡ read_fault source) }
+    {
+        let text = format!(in alloc; "read fault {}\n", source.word())?;
+        Ok(Report::line(5, text))
+    }
+
+    #[tactic(auto, unfolding(crate::specs::Reports::too_long))]
+    pub(crate) fn too_long(alloc: Global, source: Source) -> Result<Report, AllocError>
+        ensures { IfOk result (λ report. shown report ≡ too_long source) }
+    {
+        let text = format!(in alloc; "refused {} too long\n", source.word())?;
+        Ok(Report::line(3, text))
+    }
+
+    #[tactic(auto, unfolding(crate::specs::Reports::refused))]
+    pub(crate) fn refused(
+        alloc: Global,
+        source: Source,
+        refusal: Refusal,
+    ) -> Result<Report, AllocError>
+        ensures { IfOk result (λ report. shown report ≡ refused source refusal) }
+    {
+        let letter = char::from(refusal.letter);
+        let number = refusal.number;
+        let line = refusal.line;
+        let text = format!(in alloc; "refused {} {letter}{number} line {line}\n", source.word())?;
+        Ok(Report::line(3, text))
+    }
+
+    /// The report on a problem that would pass this limit.
+    #[tactic(auto, unfolding(crate::specs::Reports::too_large))]
+    pub(crate) fn too_large(alloc: Global, what: What, limit: u32) -> Result<Report, AllocError>
+        ensures { IfOk result (λ report. shown report ≡ too_large what limit) }
+    {
+        let text = format!(in alloc; "refused large {} {limit}\n", size_word(what))?;
+        Ok(Report::line(3, text))
+    }
+}
+
+/// What there is too much of in a problem, as reports name it.
+fn size_word(what: What) -> &'static str
+    ensures { result.now ≡ size_word what }
+{
+    match what {
+        What::Forms => "forms",
+        What::Atoms => "atoms",
+        What::Clauses => "clauses",
+    }
+}
