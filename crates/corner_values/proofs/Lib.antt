@@ -6,3 +6,4 @@ pub mod FaultLaws
 pub mod SolutionLaws
 pub mod ColumnLaws
 pub mod WholeLaws
+pub mod TestLaws

@@ -12,6 +12,8 @@ mod epsilon;
 mod meeting;
 mod operation;
 mod scale;
+#[cfg(test)]
+mod tests;
 
 pub use answer::Values;
 pub use corner::values;

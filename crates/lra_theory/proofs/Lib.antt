@@ -15,3 +15,4 @@ pub mod NewLaws
 pub mod ListLaws
 pub mod SumLaws
 pub mod ValueLaws
+pub mod TestLaws

@@ -8,3 +8,4 @@ pub mod Calm
 pub mod Standings
 pub mod Soundness
 pub mod Totals
+pub mod Examples

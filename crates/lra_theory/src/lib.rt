@@ -11,6 +11,8 @@ mod fault;
 mod rows;
 mod sums;
 mod telling;
+#[cfg(test)]
+mod tests;
 mod theory;
 mod trail;
 mod undoing;

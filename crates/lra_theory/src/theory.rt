@@ -1,7 +1,8 @@
 //! The theory itself: the simplex over the forms of some clauses, told literals of their atoms.
 
-ghost use Rattle.std.specs.Prelude.{◌≡◌, pos, ◌≤ℤ◌, true, unsigned_abs, length, All, IfOk, IfErr};
+ghost use Rattle.std.specs.Prelude.{◌≡◌, pos, ◌≤ℤ◌, true, unsigned_abs, length, All, IfOk, OnOk, IfErr};
 ghost use Rattle.whole.specs.Numbers.{IsWithin};
+ghost use Rattle.whole.specs.declared.answers.Stuck.{Stuck as StuckValue};
 ghost use Rattle.linear_form.specs.Sums.{entry};
 ghost use Rattle.clause_form.specs.Derivations.{rows_of};
 ghost use Rattle.clause_form.specs.Theories.{AreMet};
@@ -78,7 +79,8 @@ impl<F: OrderedField> Lra<F> {
     }
 
     /// The values of the columns at the corner that the last check found, which meet the rows of all literals told. It may be
-    /// asked for while that check's `Fine` stands. `Stuck` names an operation of the values that is too wide.
+    /// asked for while that check's `Fine` stands. `Stuck` comes exactly where an operation of the values is too wide, and
+    /// names one.
     pub fn values(&self) -> Result<Values, LraFault>
         requires { (seen F.value self.now).fine ≡ true }
         ensures exact { IfOk result (λ v. AreValuesAt (seen F.value self.now).state.corner v.over v.values) }
@@ -86,6 +88,7 @@ impl<F: OrderedField> Lra<F> {
         ensures positive { IfOk result (λ v. pos 1 ≤ℤ v.over) }
         ensures count { IfOk result (λ v. length v.values ≡ (seen F.value self.now).rows.columns) }
         ensures within { IfOk result (λ v. All IsWithin v.values) }
+        ensures kept { OnOk result ((s : StuckValue) → ¬ IsStuckValue F.LIMIT (seen F.value self.now).state.corner s) }
         ensures stuck { IfErr result (λ fault. IfStuck fault (IsStuckValue F.LIMIT (seen F.value self.now).state.corner)) }
     {
         let _variables = self.simplex.variables();
