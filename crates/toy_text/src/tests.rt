@@ -28,13 +28,12 @@ fn refusal_of(alloc: Global, bytes: &[u8]) -> Result<(u8, u32), Fail>
 fn a_toy_is_read_and_printed_again(rt: HostRuntime) -> Result<(), Fail> {
     let text = b"toy 2\nlist 2 5 -7\nopen\nlist 0\nclose\nend\n";
     let lines = read_toy(rt.alloc(), text)?;
+    let slice = lines.as_slice();
     assert_eq!(rt;
-        format!(in rt.alloc(); "{:?}", lines.as_slice())?.as_str(),
+        format!(in rt.alloc(); "{slice:?}")?.as_str(),
         "[Header(2), Numbers(Items { items: [5, -7] }), Open, Numbers(Items { items: [] }), Close, End]"
     );
-    let printed = print_toy(rt.alloc(), lines.as_slice())
-        .ok()
-        .ok_or("memory ran out")?;
+    let printed = print_toy(rt.alloc(), slice).ok().ok_or("memory ran out")?;
     assert_eq!(rt; printed.as_slice(), text.as_slice());
     toys_are_told_apart();
     Ok(())
