@@ -608,6 +608,13 @@ const SMALL: [Asked; 5] = [
 /// What is required of no run is violated by the runs that there are.
 const LARGER: [Asked; 2] = [(HALVING, PROGRESS, 0, 2), (HALVING, ANY_RUN, 1, 2)];
 
+fn is_between(status: Option<u8>, least: u8, greatest: u8) -> bool {
+    match status {
+        Some(status) => least <= status && status <= greatest,
+        None => false,
+    }
+}
+
 /// The word of the command that reads what `check` saves with this status, what it then reports, and the first line of what
 /// is saved.
 fn confirmation(status: u8) -> (&'static str, &'static str, &'static str) {
@@ -618,78 +625,92 @@ fn confirmation(status: u8) -> (&'static str, &'static str, &'static str) {
     }
 }
 
-/// Asserts that `check` comes to such a status, and that what it saves is then confirmed.
-macro_rules! assert_confirmed {
-    ($rt:ident; $asked:expr) => {
-        let (controller, question, least, greatest) = $asked;
-        let mut folder = folder_of($rt.alloc(), controller, question)?;
-        let (status, report) = ended($rt.alloc(), &["check", "c", "q"], &mut folder)?;
-        assert!($rt; least <= status && status <= greatest);
-        let (word, confirmed, head) = confirmation(status);
-        assert!($rt; report.as_slice().starts_with(head.as_bytes()));
-        folder.add("saved", report.as_slice())?;
-        let (_status, answer) = ended($rt.alloc(), &[word, "c", "q", "saved"], &mut folder)?;
-        assert_eq!($rt; answer.as_slice(), confirmed.as_bytes());
-    };
+/// The status to which `check` comes, if the command that reads what it saves says the same.
+fn confirmed(alloc: Global, controller: &str, question: &str) -> Result<Option<u8>, Fail> {
+    let mut folder = folder_of(alloc, controller, question)?;
+    let (status, report) = ended(alloc, &["check", "c", "q"], &mut folder)?;
+    let (word, expected, head) = confirmation(status);
+    folder.add("saved", report.as_slice())?;
+    let (_status, answer) = ended(alloc, &[word, "c", "q", "saved"], &mut folder)?;
+    let same = answer.as_slice() == expected.as_bytes();
+    let headed = report.as_slice().starts_with(head.as_bytes());
+    Ok(if same && headed { Some(status) } else { None })
 }
 
 #[test]
 fn each_verdict_is_confirmed_from_its_saved_report(rt: HostRuntime) -> Result<(), Fail> {
-    for asked in SMALL {
-        assert_confirmed!(rt; asked);
+    for (controller, question, least, greatest) in SMALL {
+        let status = confirmed(rt.alloc(), controller, question)?;
+        assert!(rt; is_between(status, least, greatest));
     }
     Ok(())
 }
 
 #[test]
 fn larger_verdicts_are_confirmed_too(rt: HostRuntime) -> Result<(), Fail> {
-    for asked in LARGER {
-        assert_confirmed!(rt; asked);
+    for (controller, question, least, greatest) in LARGER {
+        let status = confirmed(rt.alloc(), controller, question)?;
+        assert!(rt; is_between(status, least, greatest));
     }
     Ok(())
 }
 
 #[test]
-fn what_a_search_gives_up_or_proves_is_about_its_own_question(rt: HostRuntime) -> Result<(), Fail> {
+fn a_proof_fails_for_another_question(rt: HostRuntime) -> Result<(), Fail> {
     let mut folder = folder_of(rt.alloc(), FIXED_WINDOW, STEADY)?;
     let (_status, report) = ended(rt.alloc(), &["check", "c", "q"], &mut folder)?;
+    // One lemma and nine nodes are enough.
+    assert!(rt; report.len() <= 115);
     folder.add("saved", report.as_slice())?;
     folder.add("q", FASTER.as_bytes())?;
     let (status, answer) = ended(rt.alloc(), &["audit", "c", "q", "saved"], &mut folder)?;
     assert_eq!(rt; status, 1);
     assert!(rt; answer.as_slice().starts_with(b"fails ".as_slice()));
-    // Nothing may be decided while a clause of one literal is left, so the one move of this budget is a propagation.
-    folder.add("q", HURRIED.as_bytes())?;
+    Ok(())
+}
+
+#[test]
+fn a_spent_budget_is_told_with_its_journal(rt: HostRuntime) -> Result<(), Fail> {
+    let mut folder = folder_of(rt.alloc(), FIXED_WINDOW, HURRIED)?;
     let (status, report) = ended(rt.alloc(), &["check", "c", "q"], &mut folder)?;
     assert_eq!(rt; status, 2);
+    // Nothing may be decided while a clause of one literal is left, so the one move of this budget is a propagation.
     assert!(rt;
         report
             .as_slice()
             .starts_with(b"unknown budget\ncounts 0 1 0 0\np ".as_slice())
     );
-    assert!(rt; report.as_slice().ends_with(b"\nend\n".as_slice()));
+    Ok(())
+}
+
+/// A controller, a question, and the refusal to which `check` comes.
+const REFUSED: [(&str, &str, &str); 3] = [
+    (EIGHT_STATES, FOUR_FLOWS, "refused large forms 2048\n"),
+    ("", STEADY, "refused controller G1 line 1\n"),
+    (FIXED_WINDOW, LATE_STEP, "refused question Q12 line 9\n"),
+];
+
+#[test]
+fn check_refuses_in_order(rt: HostRuntime) -> Result<(), Fail> {
+    for (controller, question, report) in REFUSED {
+        let mut folder = folder_of(rt.alloc(), controller, question)?;
+        let (status, answer) = ended(rt.alloc(), &["check", "c", "q"], &mut folder)?;
+        assert_eq!(rt; status, 3);
+        assert_eq!(rt; answer.as_slice(), report.as_bytes());
+    }
     Ok(())
 }
 
 #[test]
-fn what_check_is_given_is_refused_in_order(rt: HostRuntime) -> Result<(), Fail> {
+fn check_names_the_file_that_it_cannot_have(rt: HostRuntime) -> Result<(), Fail> {
     let words = ["check", "c", "q"];
-    let mut large = folder_of(rt.alloc(), EIGHT_STATES, FOUR_FLOWS)?;
-    assert_ends!(rt; words, large, 3, "refused large forms 2048\n");
-    let mut empty = folder_of(rt.alloc(), "", STEADY)?;
-    assert_ends!(rt; words, empty, 3, "refused controller G1 line 1\n");
-    let mut unasked = folder_of(rt.alloc(), FIXED_WINDOW, LATE_STEP)?;
-    assert_ends!(rt; words, unasked, 3, "refused question Q12 line 9\n");
-    let mut second_fails = folder_of(rt.alloc(), FIXED_WINDOW, STEADY)?;
-    assert_eq!(rt; second_fails.fail_at(2), Ok(()));
-    assert_ends!(rt; words, second_fails, 5, "read fault question\n");
+    let mut folder = folder_of(rt.alloc(), FIXED_WINDOW, STEADY)?;
+    assert_eq!(rt; folder.fail_at(2), Ok(()));
+    assert_ends!(rt; words, folder, 5, "read fault question\n");
+    assert_ends!(rt; ["chec", "c", "q"], folder, 4, "usage\n");
     let long = vec![in rt.alloc(); b'a'; 65_537]?;
-    assert_eq!(rt; large.add("q", long.as_slice()), Ok(()));
-    assert_ends!(rt; words, large, 3, "refused question too long\n");
-    assert_eq!(rt; large.add("c", long.as_slice()), Ok(()));
-    assert_ends!(rt; words, large, 3, "refused controller too long\n");
-    assert_ends!(rt; ["chec", "c", "q"], large, 4, "usage\n");
-    assert_ends!(rt; ["check", "c", "q", "t"], large, 4, "usage\n");
+    assert_eq!(rt; folder.add("c", long.as_slice()), Ok(()));
+    assert_ends!(rt; words, folder, 3, "refused controller too long\n");
     Ok(())
 }
 
