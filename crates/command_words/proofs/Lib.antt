@@ -1,0 +1,8 @@
+pub mod Rules
+pub mod Rows
+pub mod Meeting
+pub mod Walks
+pub mod Ends
+pub mod Verdicts
+pub mod RequestLaws
+pub mod FormLaws
