@@ -1,4 +1,4 @@
--- The words ask for something by a form exactly where the form's command finds no fault with them, and then it finds what is
+-- The words ask for something by a entry exactly where the entry's command finds no fault with them, and then it finds what is
 -- asked for.
 use Rattle.std.proofs.Common.{◌≡◌, ◌∙◌, ◌&&◌, ◌||◌, ◌+◌, ◌≤◌, ◌⊎◌, inl, inr, ℕ, Bool, true, false, zero, suc, List, [], ◌∷◌, Option, Some, None, ap, ap₂, refl, sym, codes, cond, length, drop, nat_le, nat_lt, arith, if◌then◌else◌, option_map, is_some, map}
 use Rattle.std.specs.List.{filter_map, fold}
@@ -10,9 +10,8 @@ use Rattle.clap.specs.Simple.{App, argument_words, built, entered, label_of, mat
 use Rattle.clap.specs.Walk.{Held, Row, Rule, Text, finished, first_of, nothing_held, one_of, rows_after, settled, settled_rows, walk, with_default}
 use Rattle.clap.specs.declared.error.kind.ErrorKind.TheVariants as kind
 use Rattle.command_words.specs.Clap.{all_names, app_by, app_of_range}
-use Rattle.command_words.specs.Forms.{Asked, asked_by, is_form, takes_count}
+use Rattle.command_words.specs.Forms.{Asked, Entry, asked_by, is_entry, takes_count}
 use Rattle.command_words.specs.Words.{json_of, options_of, values_of}
-use Rattle.command_words.specs.declared.forms.Form.{Form}
 use Rattle.command_words.proofs.Ends.{all_default, all_faultless, final, final_fills, final_flag, final_values, unmet}
 use Rattle.command_words.proofs.Meeting.{FindsFlag, not_empty}
 use Rattle.command_words.proofs.Rows.{row_at}
@@ -112,31 +111,31 @@ room_is room [] = sym (le-leb 0 room (omega arith))
 room_is zero (word ∷ words) = sym (lt-leb (length (word ∷ words)) 0 (omega arith))
 room_is (suc room) (word ∷ words) = room_is room words ∙ same_le (length words) room
 
-abbrev pub asked_to : Form → List Text → Bool → Asked
-asked_to form words json = record { word = form.word.now; values = values_of words; json = json }
+abbrev pub asked_to : Entry → List Text → Bool → Asked
+asked_to entry words json = record { word = entry.word; values = values_of words; json = json }
 
-asked_where : (form : Form) (words : List Text) → nat_lt (length (values_of words)) form.least ≡ false → room_for form.most (values_of words) ≡ true → suits false (options_of words) ≡ true
-    → asked_by form words ≡ Some (asked_to form words (joined false (options_of words)))
-asked_where form words enough room suited =
-    ap₂ (λ (b : Bool) (o : Option Bool). if b then option_map (λ json. asked_to form words json) o else None)
-    (and_from _ _ (le-leb form.least (length (values_of words)) (ltb-false _ _ enough)) (sym (room_is form.most (values_of words)) ∙ room))
+asked_where : (entry : Entry) (words : List Text) → nat_lt (length (values_of words)) entry.least ≡ false → room_for entry.most (values_of words) ≡ true → suits false (options_of words) ≡ true
+    → asked_by entry words ≡ Some (asked_to entry words (joined false (options_of words)))
+asked_where entry words enough room suited =
+    ap₂ (λ (b : Bool) (o : Option Bool). if b then option_map (λ json. asked_to entry words json) o else None)
+    (and_from _ _ (le-leb entry.least (length (values_of words)) (ltb-false _ _ enough)) (sym (room_is entry.most (values_of words)) ∙ room))
     (json_is (options_of words) ∙ ap (λ b. if b then Some (joined false (options_of words)) else None) suited)
 
-not_asked : (form : Form) (words : List Text) → (takes_count form (length (values_of words)) ≡ false) ⊎ (json_of (options_of words) ≡ None) → asked_by form words ≡ None
-not_asked form words (inl e) = ap (λ b. if b then option_map (λ json. asked_to form words json) (json_of (options_of words)) else None) e
-not_asked form words (inr e) = ap (λ o. if takes_count form (length (values_of words)) then option_map (λ json. asked_to form words json) o else None) e ∙ none_both (takes_count form (length (values_of words)))
+not_asked : (entry : Entry) (words : List Text) → (takes_count entry (length (values_of words)) ≡ false) ⊎ (json_of (options_of words) ≡ None) → asked_by entry words ≡ None
+not_asked entry words (inl e) = ap (λ b. if b then option_map (λ json. asked_to entry words json) (json_of (options_of words)) else None) e
+not_asked entry words (inr e) = ap (λ o. if takes_count entry (length (values_of words)) then option_map (λ json. asked_to entry words json) o else None) e ∙ none_both (takes_count entry (length (values_of words)))
   where
     none_both : (b : Bool) → ◌≡◌ {A = Option Asked} (if b then None else None) None
     none_both true = refl
     none_both false = refl
 
-too_few : (form : Form) (words : List Text) → nat_lt (length (values_of words)) form.least ≡ true → asked_by form words ≡ None
-too_few form words e = not_asked form words (inl (and_left _ _ (lt-leb form.least (length (values_of words)) (ltb-true _ _ e))))
+too_few : (entry : Entry) (words : List Text) → nat_lt (length (values_of words)) entry.least ≡ true → asked_by entry words ≡ None
+too_few entry words e = not_asked entry words (inl (and_left _ _ (lt-leb entry.least (length (values_of words)) (ltb-true _ _ e))))
 
-not_fitting : (form : Form) (words : List Text) → (suits false (options_of words) && room_for form.most (values_of words)) ≡ false → asked_by form words ≡ None
-not_fitting form words e = elim (and_cases _ _ e) [
-  | inl unsuited ↦ not_asked form words (inr (json_is (options_of words) ∙ ap (λ b. if b then Some (joined false (options_of words)) else None) unsuited))
-  | inr no_room ↦ not_asked form words (inl (and_right _ _ (sym (room_is form.most (values_of words)) ∙ no_room)))
+not_fitting : (entry : Entry) (words : List Text) → (suits false (options_of words) && room_for entry.most (values_of words)) ≡ false → asked_by entry words ≡ None
+not_fitting entry words e = elim (and_cases _ _ e) [
+  | inl unsuited ↦ not_asked entry words (inr (json_is (options_of words) ∙ ap (λ b. if b then Some (joined false (options_of words)) else None) unsuited))
+  | inr no_room ↦ not_asked entry words (inl (and_right _ _ (sym (room_is entry.most (values_of words)) ∙ no_room)))
 ]
 
 -- ---- the end of a parse whose walk finds no fault
@@ -189,10 +188,10 @@ pub record Takes (least most : ℕ) (words values : List Text) (json : Bool) : T
   pub values_found : filter_map (λ name. first_of name (matches_of (app_of_range least most) words)) all_names ≡ values
   pub flag_found : one_of (codes "json") (matches_of (app_of_range least most) words) ≡ Some (if json then codes "true" else codes "false")
 
-abbrev pub Verdict : Form → List Text → Type 0
-Verdict form words =
-    ((json : Bool) × (asked_by form (drop 1 words) ≡ Some (asked_to form (drop 1 words) json)) × Takes form.least form.most words (values_of (drop 1 words)) json)
-    ⊎ ((asked_by form (drop 1 words) ≡ None) × (fault_of (app_by form) words ≡ [] → ⊥))
+abbrev pub Verdict : Entry → List Text → Type 0
+Verdict entry words =
+    ((json : Bool) × (asked_by entry (drop 1 words) ≡ Some (asked_to entry (drop 1 words) json)) × Takes entry.least entry.most words (values_of (drop 1 words)) json)
+    ⊎ ((asked_by entry (drop 1 words) ≡ None) × (fault_of (app_by entry) words ≡ [] → ⊥))
 
 starts : (least most : ℕ) (b : IsBuilt least most) → most ≤ 4 → Stands (rules_taken least most) all_names most 1 false [] None []
 starts least most b high = record {
@@ -206,47 +205,47 @@ starts least most b high = record {
   small = omega arith;
 }
 
-by_walk : (form : Form) (b : IsBuilt form.least form.most) (words : List Text) → form.least ≤ form.most → form.most ≤ 4
-    → WalkEnds (rules_taken form.least form.most) b.finds false (drop 1 words) (values_of (drop 1 words)) (options_of (drop 1 words)) form.most 1 all_names false [] None []
-    → Verdict form words
-by_walk form b words low high (inr o) = inr (
-  not_fitting form (drop 1 words) o.0,
-  λ e. o.1 (or_else_none (walk_fault (ready (rules_taken form.least form.most)) [] (standing [] None 1 false) (drop 1 words))
-      (later form.least form.most b (walk (rules_taken form.least form.most) [] nothing_held (drop 1 words)).stopped (walk (rules_taken form.least form.most) [] nothing_held (drop 1 words)).held)
-      (sym (fault_is form.least form.most b words) ∙ e)),
+by_walk : (entry : Entry) (b : IsBuilt entry.least entry.most) (words : List Text) → entry.least ≤ entry.most → entry.most ≤ 4
+    → WalkEnds (rules_taken entry.least entry.most) b.finds false (drop 1 words) (values_of (drop 1 words)) (options_of (drop 1 words)) entry.most 1 all_names false [] None []
+    → Verdict entry words
+by_walk entry b words low high (inr o) = inr (
+  not_fitting entry (drop 1 words) o.0,
+  λ e. o.1 (or_else_none (walk_fault (ready (rules_taken entry.least entry.most)) [] (standing [] None 1 false) (drop 1 words))
+      (later entry.least entry.most b (walk (rules_taken entry.least entry.most) [] nothing_held (drop 1 words)).stopped (walk (rules_taken entry.least entry.most) [] nothing_held (drop 1 words)).held)
+      (sym (fault_is entry.least entry.most b words) ∙ e)),
 )
-by_walk form b words low high (inl o) = elim (cases_Bool (nat_lt (length (values_of (drop 1 words))) form.least)) [
-  | inl few ↦ inr (too_few form (drop 1 words) few, λ e. not_empty (sym (ap (λ m. if m then kind.MissingRequiredArgument ∷ [] else []) few) ∙ sym total ∙ e))
+by_walk entry b words low high (inl o) = elim (cases_Bool (nat_lt (length (values_of (drop 1 words))) entry.least)) [
+  | inl few ↦ inr (too_few entry (drop 1 words) few, λ e. not_empty (sym (ap (λ m. if m then kind.MissingRequiredArgument ∷ [] else []) few) ∙ sym total ∙ e))
   | inr enough ↦ inl (
     joined false (options_of (drop 1 words)),
-    asked_where form (drop 1 words) enough room (and_parts (suits false (options_of (drop 1 words))) (room_for form.most (values_of (drop 1 words))) o.0).0,
+    asked_where entry (drop 1 words) enough room (and_parts (suits false (options_of (drop 1 words))) (room_for entry.most (values_of (drop 1 words))) o.0).0,
     record {
       fault = total ∙ ap (λ m. if m then kind.MissingRequiredArgument ∷ [] else []) enough;
       values_found = ap (λ rows. filter_map (λ name. first_of name rows) all_names) found
           ∙ final_values all_names (values_of (drop 1 words)) (final (joined false (options_of (drop 1 words))) o.2.rows) (final_fills (joined false (options_of (drop 1 words))) all_names (values_of (drop 1 words)) o.2.rows apart_names o.2.fills)
-          (let counted : length (values_of (drop 1 words)) ≤ form.most = leb-true _ _ (sym (room_is form.most (values_of (drop 1 words))) ∙ room) in omega arith);
+          (let counted : length (values_of (drop 1 words)) ≤ entry.most = leb-true _ _ (sym (room_is entry.most (values_of (drop 1 words))) ∙ room) in omega arith);
       flag_found = ap (one_of (codes "json")) found ∙ final_flag (joined false (options_of (drop 1 words))) o.2.rows o.2.flag_is;
     },
   )
 ]
   where
-    room : room_for form.most (values_of (drop 1 words)) ≡ true
-    room = (and_parts (suits false (options_of (drop 1 words))) (room_for form.most (values_of (drop 1 words))) o.0).1
+    room : room_for entry.most (values_of (drop 1 words)) ≡ true
+    room = (and_parts (suits false (options_of (drop 1 words))) (room_for entry.most (values_of (drop 1 words))) o.0).1
 
-    total : fault_of (app_by form) words ≡ (if nat_lt (length (values_of (drop 1 words))) form.least then kind.MissingRequiredArgument ∷ [] else [])
-    total = fault_is form.least form.most b words
-        ∙ unfold_later form.least form.most b (drop 1 words) (values_of (drop 1 words)) (joined false (options_of (drop 1 words))) o.2 o.1
-        ∙ checked form.least form.most b (values_of (drop 1 words)) (joined false (options_of (drop 1 words))) o.2.rows o.2.flag_is o.2.fills (and_parts (suits false (options_of (drop 1 words))) (room_for form.most (values_of (drop 1 words))) o.0).1 low high
+    total : fault_of (app_by entry) words ≡ (if nat_lt (length (values_of (drop 1 words))) entry.least then kind.MissingRequiredArgument ∷ [] else [])
+    total = fault_is entry.least entry.most b words
+        ∙ unfold_later entry.least entry.most b (drop 1 words) (values_of (drop 1 words)) (joined false (options_of (drop 1 words))) o.2 o.1
+        ∙ checked entry.least entry.most b (values_of (drop 1 words)) (joined false (options_of (drop 1 words))) o.2.rows o.2.flag_is o.2.fills (and_parts (suits false (options_of (drop 1 words))) (room_for entry.most (values_of (drop 1 words))) o.0).1 low high
 
-    found : matches_of (app_by form) words ≡ final (joined false (options_of (drop 1 words))) o.2.rows
-    found = matches_are form.least form.most b words
-        ∙ matches_end form.least form.most b (drop 1 words) (values_of (drop 1 words)) (joined false (options_of (drop 1 words))) o.2
+    found : matches_of (app_by entry) words ≡ final (joined false (options_of (drop 1 words))) o.2.rows
+    found = matches_are entry.least entry.most b words
+        ∙ matches_end entry.least entry.most b (drop 1 words) (values_of (drop 1 words)) (joined false (options_of (drop 1 words))) o.2
 
-pub verdict : (form : Form) → is_form form ≡ true → (words : List Text) → Verdict form words
-verdict form fits words =
-    let parts = and_parts (nat_le form.least form.most) (nat_le form.most 4) fits in
-    let low : form.least ≤ form.most = leb-true _ _ parts.0 in
-    let high : form.most ≤ 4 = leb-true _ _ parts.1 in
-    let b = is_built form.least form.most high in
-    by_walk form b words low high
-    (words_end (rules_taken form.least form.most) b.finds (drop 1 words) form.most 1 all_names false [] None [] (starts form.least form.most b high))
+pub verdict : (entry : Entry) → is_entry entry ≡ true → (words : List Text) → Verdict entry words
+verdict entry fits words =
+    let parts = and_parts (nat_le entry.least entry.most) (nat_le entry.most 4) fits in
+    let low : entry.least ≤ entry.most = leb-true _ _ parts.0 in
+    let high : entry.most ≤ 4 = leb-true _ _ parts.1 in
+    let b = is_built entry.least entry.most high in
+    by_walk entry b words low high
+    (words_end (rules_taken entry.least entry.most) b.finds (drop 1 words) entry.most 1 all_names false [] None [] (starts entry.least entry.most b high))

@@ -3,7 +3,7 @@ use Rattle.std.specs.Prelude.{ℕ, true, List, [], ◌∷◌, Some, codes, nat_l
 use Rattle.clap.specs.Words.{App, Rule, new_app, new_rule, with_rule}
 use Rattle.clap.specs.declared.builder.action.ArgAction.TheVariants.{SetTrue}
 use Rattle.command_words.specs.Words.{Text}
-use Rattle.command_words.specs.declared.forms.Form.{Form}
+use Rattle.command_words.specs.Forms.{Entry}
 
 -- the names of the values that a command may have
 abbrev pub all_names : List Text
@@ -32,5 +32,5 @@ abbrev pub app_of_range : ℕ → ℕ → App
 app_of_range least most =
     with_value least most (with_value least most (with_value least most (with_value least most bare_app 0 (codes "first")) 1 (codes "second")) 2 (codes "third")) 3 (codes "fourth")
 
-abbrev pub app_by : Form → App
-app_by form = app_of_range form.least form.most
+abbrev pub app_by : Entry → App
+app_by entry = app_of_range entry.least entry.most

@@ -1,6 +1,7 @@
 ghost use Rattle.std.specs.Prelude.{◌≡◌, IfOk};
 ghost use Rattle.clap.specs.Words.{app_of};
 ghost use Rattle.command_words.specs.Clap.{app_by, bare_app, with_value};
+ghost use Rattle.command_words.specs.Forms.{entry_of};
 
 use crate::forms::Form;
 use clap::{Arg, ArgAction, Command};
@@ -11,7 +12,7 @@ pub(crate) const NAMES: [&str; 4] = ["first", "second", "third", "fourth"];
 
 /// The command of `clap` that takes what the form does. It has no flag for help, so `--help` is an unknown option.
 pub(crate) fn command_by<'a>(alloc: Global, form: Form) -> Result<Command<'a>, AllocError>
-    ensures { IfOk result (λ command. app_of command ≡ app_by form) }
+    ensures { IfOk result (λ command. app_of command ≡ app_by (entry_of form)) }
 {
     let command = with_value(alloc, bare_command(alloc)?, form, 0, "first")?;
     let command = with_value(alloc, command, form, 1, "second")?;

@@ -1,7 +1,7 @@
 ghost use Rattle.std.specs.Prelude.{◌≡◌, IfOk, IsTrue, drop, map, option_map, string_bytes};
 ghost use Rattle.std.specs.List.{filter_map};
 ghost use Rattle.clap.specs.Words.{first_value, found_of};
-ghost use Rattle.command_words.specs.Forms.{are_forms, asked_by, asked_of, is_form};
+ghost use Rattle.command_words.specs.Forms.{are_entries, asked_by, asked_of, entry_of, is_entry};
 ghost use Rattle.command_words.specs.Seen.{seen};
 
 use crate::clap_command::{NAMES, command_by};
@@ -25,8 +25,8 @@ pub fn request_of<'a>(
     forms: &[Form],
     words: &'a [String],
 ) -> Result<Option<Request<'a>>, NoMemory>
-    requires { IsTrue (are_forms forms.now) }
-    ensures { IfOk result (λ request. option_map seen request ≡ asked_of forms.now (map string_bytes words.entry.now)) }
+    requires { IsTrue (are_entries (map entry_of forms.now)) }
+    ensures { IfOk result (λ request. option_map seen request ≡ asked_of (map entry_of forms.now) (map string_bytes words.entry.now)) }
 {
     let Some(word) = words.first() else {
         return Ok(None);
@@ -43,8 +43,8 @@ fn request_by<'a>(
     form: Form,
     words: &'a [String],
 ) -> Result<Option<Request<'a>>, NoMemory>
-    requires { IsTrue (is_form form) }
-    ensures { IfOk result (λ request. option_map seen request ≡ asked_by form (drop 1 (map string_bytes words.entry.now))) }
+    requires { IsTrue (is_entry (entry_of form)) }
+    ensures { IfOk result (λ request. option_map seen request ≡ asked_by (entry_of form) (drop 1 (map string_bytes words.entry.now))) }
 {
     let command = command_by(alloc, form)?;
     match command.try_get_matches_from(words) {
