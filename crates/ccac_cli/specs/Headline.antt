@@ -57,8 +57,9 @@ module _ (c : Controller) (q : Question) where
     pub proves : Proves problem cert
     pub none : NoneViolates c q
 
-  -- "its whole step budget spent": the bytes are the journal of a search for a model of these clauses. It is legal, move by move; it has
-  -- exactly as many charged moves as the question's budget; and some further charged move may follow it (IsSpent)
+  -- "its whole step budget spent": the bytes are the journal of a search for a model of these clauses. It is legal, move by move, and each
+  -- conflict learns its first implication point; it has exactly as many charged moves as the question's budget; and some further charged
+  -- move may follow it (IsSpent)
   pub record IsSpentJournal (bytes : List ℕ) : Type 0 where
     pub problem : Clauses
     pub posed : problem_of c q ≡ Ok problem
