@@ -31,10 +31,10 @@ use Rattle.ctrl_meaning.specs.Steps.{sending, set_claim, set_of, stepping}
 use Rattle.ctrl_meaning.specs.declared.readings.Reading.{Reading}
 use Rattle.path_server.proofs.RowColumns.{map-flat_map}
 use Rattle.path_server.proofs.AdmissionLaws.{all_below, all_flat_map}
-use Rattle.ctrl_meaning.proofs.ClaimLists.{conjunction_leaves, conjunction_with, each_flows_made, flows_of_each, joined_made, maps_agree, maps_made}
+use Rattle.claim_values.proofs.ClaimLists.{conjunction_leaves, conjunction_with, each_flows_made, flows_of_each, joined_made, maps_agree, maps_made}
 use Rattle.ctrl_meaning.proofs.Columns.{AreSources, IsReadingOf, LeafIn, OptionIn, range_over, send_made, send_over, set_made, set_over, test_made, test_over}
 use Rattle.ctrl_meaning.proofs.FlowRows.{flows_mean}
-use Rattle.ctrl_meaning.proofs.MadeShape.{made_shape}
+use Rattle.claim_values.proofs.MadeShape.{made_shape}
 
 -- ---- by any terms
 

@@ -22,7 +22,7 @@ use Rattle.ctrl_meaning.specs.Steps.{set_claim, set_of}
 use Rattle.ctrl_meaning.specs.declared.readings.Reading.{Reading}
 use Rattle.path_server.proofs.RowColumns.{each_below}
 use Rattle.path_server.proofs.AdmissionLaws.{all_below}
-use Rattle.ctrl_meaning.proofs.ClaimLists.{both_halves, conjunction_means, each_of_map}
+use Rattle.claim_values.proofs.ClaimLists.{both_halves, conjunction_means, each_of_map}
 use Rattle.ctrl_meaning.proofs.Readiness.{IsStepReady}
 use Rattle.ctrl_meaning.proofs.StepLaws.{guard_means, one_fires, state_means}
 

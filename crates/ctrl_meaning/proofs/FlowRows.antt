@@ -23,7 +23,7 @@ use Rattle.ctrl_meaning.specs.Steps.{sending, stepping}
 use Rattle.ctrl_meaning.specs.declared.readings.Reading.{Reading}
 use Rattle.path_server.proofs.RowColumns.{each_below, each_of_joined}
 use Rattle.path_server.proofs.AdmissionLaws.{all_below, all_flat_map}
-use Rattle.ctrl_meaning.proofs.ClaimLists.{both_halves, each_of_flows, flows_of_each}
+use Rattle.claim_values.proofs.ClaimLists.{both_halves, each_of_flows, flows_of_each}
 use Rattle.ctrl_meaning.proofs.FlowLaws.{step_means}
 use Rattle.ctrl_meaning.proofs.OpeningLaws.{range_means}
 use Rattle.ctrl_meaning.proofs.Readiness.{IsStepReady, has_den, states_stand, step_ready}

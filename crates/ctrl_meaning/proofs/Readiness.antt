@@ -24,7 +24,7 @@ use Rattle.ctrl_meaning.specs.Limits.{CanSend, CanStep, CanSum, FitsBoth, HasSha
 use Rattle.ctrl_meaning.specs.Readings.{IsReading, reading, states_at}
 use Rattle.ctrl_meaning.specs.Steps.{sending, set_of, stepping}
 use Rattle.ctrl_meaning.specs.declared.readings.Reading.{Reading}
-use Rattle.ctrl_meaning.proofs.Scales.{some_den}
+use Rattle.claim_values.proofs.Scales.{some_den}
 use Rattle.ctrl_meaning.proofs.Values.{AreScaled, is_scale, scale_divides}
 
 -- an expression's terms can be read, and their denominators divide d
