@@ -7,7 +7,7 @@ use Rattle.std.proofs.lemmas.List.Elements.{All-append, All-cons, All-head, All-
 use Rattle.whole.proofs.Integers.{≤ℤ_or_>}
 use Rattle.condition_tree.specs.Trees.{always, never, leaf, opposite, end_of_all, all_of, end_of_any, any_of}
 use Rattle.claims.specs.Subjects.{in_run}
-use Rattle.weighing.specs.Claim.{Claim, ComparedHolds, Holds, all_claims, total}
+use Rattle.weighing.specs.Claim.{Claim, ComparedHolds, Holds, total}
 use Rattle.weighing.specs.First.{below}
 use Rattle.weighing.specs.Weighed.{Stands}
 use Rattle.weighing.specs.declared.weighings.Rel5.{Rel5}

@@ -8,7 +8,7 @@ use Rattle.std.proofs.lemmas.Nat.Gcd.{le_of_dvd}
 use Rattle.std.proofs.lemmas.List.Elements.{All-head, All-tail}
 use Rattle.std.proofs.Math.Nat.{one-dvd}
 use Rattle.weighing.specs.Scaled.{IsNum, den_of}
-use Rattle.run_rows.specs.Runs.{IsRun, flow_of, no_flow, state_count}
+use Rattle.run_rows.specs.Runs.{IsRun, flow_of, no_flow}
 use Rattle.run_rows.specs.declared.rows.Run.{Run}
 use Rattle.path_server.specs.Limits.{IsSetting}
 use Rattle.path_server.specs.Shapes.{shape_of}
