@@ -10,6 +10,7 @@ mod asking;
 mod conflict;
 mod course;
 mod found;
+mod guide;
 mod lessons;
 #[cfg(test)]
 mod names;
@@ -22,4 +23,5 @@ mod tests;
 mod trail;
 
 pub use found::Found;
-pub use searching::search;
+pub use guide::{Guide, Unguided};
+pub use searching::{search, search_guided};

@@ -9,6 +9,7 @@ ghost use Rattle.clause_search.specs.Tables.{NameAll};
 
 use crate::course::Course;
 use crate::found::Found;
+use crate::guide::{Guide, Unguided};
 use crate::step::{Step, take_step};
 use clause_form::{Clauses, Theory};
 use farkas_cert::{Cert, Lemma};
@@ -32,11 +33,27 @@ pub fn search<T: Theory>(
     ensures rows { (T.seen theory.new).rows ≡ (T.seen theory.old).rows }
     ensures limit { budget.new.limit ≡ budget.old.limit }
 {
+    search_guided(alloc, clauses, theory, budget, &mut Unguided)
+}
+
+/// The same search, which decides as the guide advises.
+pub fn search_guided<T: Theory, G: Guide<T>>(
+    alloc: Global,
+    clauses: &Clauses,
+    theory: &mut T,
+    budget: &mut Budget,
+    guide: &mut G,
+) -> Found
+    requires { IsStart T.relations clauses.now (T.seen theory.old) (counts budget.old) }
+    ensures found { Finds (starting_at (T.seen theory.old).state T.relations) clauses.now (T.seen theory.new) (counts budget.new) result }
+    ensures rows { (T.seen theory.new).rows ≡ (T.seen theory.old).rows }
+    ensures limit { budget.new.limit ≡ budget.old.limit }
+{
     let Ok(mut course) = Course::new(alloc, clauses) else {
         return Found::NoMemory;
     };
     'steps: loop {
-        match take_step(alloc, clauses, &mut course, theory, budget) {
+        match take_step(alloc, clauses, &mut course, theory, budget, guide) {
             Step::GoesOn => {}
             Step::Total => return total(alloc, course),
             Step::Closed => return Found::Closed(certificate(clauses, course.into_lemmas())),

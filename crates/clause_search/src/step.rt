@@ -8,6 +8,7 @@ use crate::agenda::Reason;
 use crate::asking::{assume, check};
 use crate::conflict::conflict;
 use crate::course::{Course, Phase};
+use crate::guide::Guide;
 use crate::survey::{Survey, look_over};
 use crate::trail::Trail;
 use clause_form::{Clauses, Heard, Theory};
@@ -34,12 +35,13 @@ pub(crate) enum Step {
 
 /// Makes one step. A false clause comes first, then the check that follows a literal, then a clause
 /// that gives a literal, and a decision only where there is none.
-pub(crate) fn take_step<T: Theory>(
+pub(crate) fn take_step<T: Theory, G: Guide<T>>(
     alloc: Global,
     clauses: &Clauses,
     course: &mut Course,
     theory: &mut T,
     budget: &mut Budget,
+    guide: &mut G,
 ) -> Step
     requires { (s : T.State) × IsAt T.relations clauses.now s course.old (T.seen theory.old) (counts budget.old) }
     ensures steps { (s : T.State) → IsAt T.relations clauses.now s course.old (T.seen theory.old) (counts budget.old) → Steps T.relations clauses.now s (work_left course.old (counts budget.old)) course.new (T.seen theory.new) (counts budget.new) result }
@@ -65,7 +67,7 @@ pub(crate) fn take_step<T: Theory>(
                 let heard = check(course, theory, budget);
                 after(alloc, clauses, course, theory, budget, heard)
             }
-            _ => advance(alloc, clauses, course, theory, budget),
+            _ => advance(alloc, clauses, course, theory, budget, guide),
         },
         Err(NoMemory) => Step::NoMemory,
     }
@@ -102,12 +104,13 @@ fn after<T: Theory>(
 }
 
 // Propagates, or decides where all is propagated.
-fn advance<T: Theory>(
+fn advance<T: Theory, G: Guide<T>>(
     alloc: Global,
     clauses: &Clauses,
     course: &mut Course,
     theory: &mut T,
     budget: &mut Budget,
+    guide: &mut G,
 ) -> Step
     requires { (s : T.State) × IsAdvancing T.relations clauses.now s course.old (T.seen theory.old) (counts budget.old) }
     ensures steps { (s : T.State) → IsAdvancing T.relations clauses.now s course.old (T.seen theory.old) (counts budget.old) → Steps T.relations clauses.now s (work_left course.old (counts budget.old)) course.new (T.seen theory.new) (counts budget.new) result }
@@ -134,7 +137,7 @@ fn advance<T: Theory>(
         Survey::Unit(by, lit) => {
             propagate(alloc, clauses, course, theory, budget, Reason { lit, by })
         }
-        Survey::Settled(wish) => decide(alloc, clauses, course, theory, budget, wish),
+        Survey::Settled(wish) => decide(alloc, clauses, course, theory, budget, guide, wish),
     }
 }
 
@@ -157,12 +160,13 @@ fn propagate<T: Theory>(
 }
 
 /// Assumes a literal, or finds that each atom is on the trail.
-fn decide<T: Theory>(
+fn decide<T: Theory, G: Guide<T>>(
     alloc: Global,
     clauses: &Clauses,
     course: &mut Course,
     theory: &mut T,
     budget: &mut Budget,
+    guide: &mut G,
     wish: Option<Lit>,
 ) -> Step
     requires { (s : T.State) × IsDeciding T.relations clauses.now s course.old (T.seen theory.old) (counts budget.old) wish }
@@ -170,7 +174,13 @@ fn decide<T: Theory>(
     ensures rows { (T.seen theory.new).rows ≡ (T.seen theory.old).rows }
     ensures limit { budget.new.limit ≡ budget.old.limit }
 {
-    match choose(&course.trail, wish) {
+    let advice = guide.advise(
+        clauses,
+        course.lemmas.as_slice(),
+        course.trail.as_slice(),
+        &*theory,
+    );
+    match choose(&course.trail, advice, wish) {
         Some(lit) => {
             let heard = assume(course, theory, budget, lit, None);
             after(alloc, clauses, course, theory, budget, heard)
@@ -179,9 +189,22 @@ fn decide<T: Theory>(
     }
 }
 
-// The literal to decide: the one that is wished for, and where each clause is true already the least
-// atom off the trail, negative.
-fn choose(trail: &Trail, wish: Option<Lit>) -> Option<Lit>
+// The literal to decide: the advice, if its atom is off the trail, else the one that is wished for,
+// and where each clause is true already the least atom off the trail, negative.
+fn choose(trail: &Trail, advice: Option<Lit>, wish: Option<Lit>) -> Option<Lit>
+    requires few { trail.now.atoms ≤ 4096 }
+    requires wish { IfFree trail.now wish }
+    ensures { Chooses trail.now result }
+{
+    if let Some(lit) = advice {
+        if trail.is_free(lit.atom) {
+            return Some(lit);
+        }
+    }
+    wish_or_any(trail, wish)
+}
+
+fn wish_or_any(trail: &Trail, wish: Option<Lit>) -> Option<Lit>
     requires few { trail.now.atoms ≤ 4096 }
     requires wish { IfFree trail.now wish }
     ensures { Chooses trail.now result }

@@ -4,10 +4,12 @@ ghost use Rattle.clause_form.specs.declared.clauses.Atom.TheVariants.{Named};
 ghost use Rattle.clause_search.specs.Examples.{IsNamed};
 
 use crate::found::Found;
+use crate::guide::Guide;
 use crate::names::Names;
-use crate::searching::search;
+use crate::searching::{search, search_guided};
 use clause_form::{Atom, Clauses};
-use farkas_cert::{Lit, Lits};
+use farkas_cert::{Lemma, Lit, Lits};
+use learned_clause::Assigned;
 use sqlite_items::Items;
 use std::alloc::Global;
 use std::test::Fail;
@@ -118,6 +120,60 @@ fn found(
         }
         None => Ok(None),
     }
+}
+
+// Advises this literal at each decision, also where its atom is on the trail.
+#[derive(Debug, Drop)]
+struct Prefers {
+    lit: Lit,
+}
+
+impl Guide<Names> for Prefers {
+    fn advise(
+        &mut self,
+        _clauses: &Clauses,
+        _lemmas: &[Lemma],
+        _trail: &[Assigned],
+        _theory: &Names,
+    ) -> Option<Lit> {
+        Some(self.lit)
+    }
+}
+
+// What is found over two atoms without a clause, where this literal is preferred.
+fn found_by(alloc: Global, lit: Lit) -> Result<Option<Found>, NoMemory> {
+    let some = named(alloc, 2, Items::new(alloc))?;
+    match some {
+        Some(clauses) => {
+            let mut theory = Names::new(alloc, 2);
+            let mut budget = Budget::new(100);
+            let mut guide = Prefers { lit };
+            let found = search_guided(alloc, &clauses, &mut theory, &mut budget, &mut guide);
+            Ok(Some(found))
+        }
+        None => Ok(None),
+    }
+}
+
+// Atom 1 is decided as advised, and atom 0 by the search's own rule; an atom out of range is passed
+// over.
+#[test]
+fn advice_is_taken_where_it_may_be(rt: HostRuntime) -> Result<(), Fail> {
+    let alloc = rt.alloc();
+    for (atom, second) in [(1, true), (7, false)] {
+        let lit = Lit {
+            atom,
+            positive: true,
+        };
+        match found_by(alloc, lit).expect(&rt, "memory") {
+            Some(Found::Total(truths, journal)) => {
+                assert_eq!(rt; truths.as_slice(), [false, second].as_slice());
+                assert_eq!(rt; journal.moves.len(), 2);
+            }
+            other => assert!(rt; false, "{other:?}"),
+        }
+    }
+    Ok(())
 }
 
 // Four items have no places among three, and few lemmas show it.

@@ -4,7 +4,7 @@ use Rattle.farkas_cert.specs.declared.journals.Journal.{Journal}
 use Rattle.clause_search.specs.Answers.{IsSpent, IsStuck, starting_at}
 use Rattle.clause_search.proofs.AnswerLaws.{all_atoms, closed_found, total_found}
 use Rattle.clause_search.proofs.CourseLaws.{begun}
-use Rattle.clause_search.proofs.searching.search.Goals as goal
+use Rattle.clause_search.proofs.searching.search_guided.Goals as goal
 
 pub steps-init : goal.steps-init
 steps-init g c = record {
