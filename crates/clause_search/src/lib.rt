@@ -22,6 +22,6 @@ mod survey;
 mod tests;
 mod trail;
 
-pub use found::Found;
-pub use guide::{Guide, Unguided};
-pub use searching::{search, search_guided};
+pub use found::{Found, Until};
+pub use guide::{Advice, Guide, Unguided};
+pub use searching::{search, search_guided, search_until};

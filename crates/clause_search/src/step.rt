@@ -2,13 +2,13 @@
 ghost use Rattle.std.specs.Prelude.{◌≡◌, ℕ, ◌≤◌};
 ghost use Rattle.whole.specs.Budget.{counts};
 ghost use Rattle.clause_search.specs.Courses.{IsAt, work_left};
-ghost use Rattle.clause_search.specs.Steps.{Asks, Chooses, IfFree, IsAdvancing, IsDeciding, IsPropagating, LeavesLess, Steps};
+ghost use Rattle.clause_search.specs.Steps.{Asks, Chooses, IfFree, IsAdvancing, IsDeciding, IsAllowedStop, IsPropagating, LeavesLess, Steps, Turns};
 
 use crate::agenda::Reason;
 use crate::asking::{assume, check};
 use crate::conflict::conflict;
 use crate::course::{Course, Phase};
-use crate::guide::Guide;
+use crate::guide::{Advice, Guide};
 use crate::survey::{Survey, look_over};
 use crate::trail::Trail;
 use clause_form::{Clauses, Heard, Theory};
@@ -33,8 +33,18 @@ pub(crate) enum Step {
     NoMemory,
 }
 
+/// What is done in one turn of the search.
+#[derive(Debug, Drop)]
+pub(crate) enum Turn {
+    /// A step is made.
+    Takes(Step),
+    /// The guide stops the search at a decision.
+    Stops,
+}
+
 /// Makes one step. A false clause comes first, then the check that follows a literal, then a clause
-/// that gives a literal, and a decision only where there is none.
+/// that gives a literal, and a decision only where there is none. There the guide
+/// may stop the search, if `may_stop` says so.
 pub(crate) fn take_step<T: Theory, G: Guide<T>>(
     alloc: Global,
     clauses: &Clauses,
@@ -42,9 +52,10 @@ pub(crate) fn take_step<T: Theory, G: Guide<T>>(
     theory: &mut T,
     budget: &mut Budget,
     guide: &mut G,
-) -> Step
+    may_stop: bool,
+) -> Turn
     requires { (s : T.State) × IsAt T.relations clauses.now s course.old (T.seen theory.old) (counts budget.old) }
-    ensures steps { (s : T.State) → IsAt T.relations clauses.now s course.old (T.seen theory.old) (counts budget.old) → Steps T.relations clauses.now s (work_left course.old (counts budget.old)) course.new (T.seen theory.new) (counts budget.new) result }
+    ensures turns { (s : T.State) → IsAt T.relations clauses.now s course.old (T.seen theory.old) (counts budget.old) → Turns T.relations clauses.now s (IsAllowedStop may_stop (G.stops clauses.now guide.new theory.new)) (work_left course.old (counts budget.old)) course.new (T.seen theory.new) (counts budget.new) result }
     ensures rows { (T.seen theory.new).rows ≡ (T.seen theory.old).rows }
     ensures limit { budget.new.limit ≡ budget.old.limit }
 {
@@ -53,23 +64,24 @@ pub(crate) fn take_step<T: Theory, G: Guide<T>>(
         .next_false(clauses, course.lemmas.as_slice(), &course.trail)
     {
         Ok(Some(number)) => {
-            conflict(
+            let step = conflict(
                 alloc,
                 clauses,
                 course,
                 theory,
                 budget,
                 Start::Clause(number),
-            )
+            );
+            Turn::Takes(step)
         }
         Ok(None) => match course.phase {
             Phase::Told => {
                 let heard = check(course, theory, budget);
-                after(alloc, clauses, course, theory, budget, heard)
+                Turn::Takes(after(alloc, clauses, course, theory, budget, heard))
             }
-            _ => advance(alloc, clauses, course, theory, budget, guide),
+            _ => advance(alloc, clauses, course, theory, budget, guide, may_stop),
         },
-        Err(NoMemory) => Step::NoMemory,
+        Err(NoMemory) => Turn::Takes(Step::NoMemory),
     }
 }
 
@@ -111,9 +123,10 @@ fn advance<T: Theory, G: Guide<T>>(
     theory: &mut T,
     budget: &mut Budget,
     guide: &mut G,
-) -> Step
+    may_stop: bool,
+) -> Turn
     requires { (s : T.State) × IsAdvancing T.relations clauses.now s course.old (T.seen theory.old) (counts budget.old) }
-    ensures steps { (s : T.State) → IsAdvancing T.relations clauses.now s course.old (T.seen theory.old) (counts budget.old) → Steps T.relations clauses.now s (work_left course.old (counts budget.old)) course.new (T.seen theory.new) (counts budget.new) result }
+    ensures turns { (s : T.State) → IsAdvancing T.relations clauses.now s course.old (T.seen theory.old) (counts budget.old) → Turns T.relations clauses.now s (IsAllowedStop may_stop (G.stops clauses.now guide.new theory.new)) (work_left course.old (counts budget.old)) course.new (T.seen theory.new) (counts budget.new) result }
     ensures rows { (T.seen theory.new).rows ≡ (T.seen theory.old).rows }
     ensures limit { budget.new.limit ≡ budget.old.limit }
 {
@@ -121,23 +134,29 @@ fn advance<T: Theory, G: Guide<T>>(
         .agenda
         .next_unit(clauses, course.lemmas.as_slice(), &course.trail)
     {
-        return propagate(alloc, clauses, course, theory, budget, reason);
+        return Turn::Takes(propagate(alloc, clauses, course, theory, budget, reason));
     }
     match look_over(clauses, course.lemmas.as_slice(), &course.trail) {
         Survey::False(number) => {
-            conflict(
+            let step = conflict(
                 alloc,
                 clauses,
                 course,
                 theory,
                 budget,
                 Start::Clause(number),
-            )
+            );
+            Turn::Takes(step)
         }
         Survey::Unit(by, lit) => {
-            propagate(alloc, clauses, course, theory, budget, Reason { lit, by })
+            let reason = Reason { lit, by };
+            Turn::Takes(propagate(alloc, clauses, course, theory, budget, reason))
         }
-        Survey::Settled(wish) => decide(alloc, clauses, course, theory, budget, guide, wish),
+        Survey::Settled(wish) => {
+            consult(
+                alloc, clauses, course, theory, budget, guide, wish, may_stop,
+            )
+        }
     }
 }
 
@@ -159,8 +178,8 @@ fn propagate<T: Theory>(
     after(alloc, clauses, course, theory, budget, heard)
 }
 
-/// Assumes a literal, or finds that each atom is on the trail.
-fn decide<T: Theory, G: Guide<T>>(
+// Asks the guide at a decision, and decides unless it stops the search.
+fn consult<T: Theory, G: Guide<T>>(
     alloc: Global,
     clauses: &Clauses,
     course: &mut Course,
@@ -168,9 +187,10 @@ fn decide<T: Theory, G: Guide<T>>(
     budget: &mut Budget,
     guide: &mut G,
     wish: Option<Lit>,
-) -> Step
+    may_stop: bool,
+) -> Turn
     requires { (s : T.State) × IsDeciding T.relations clauses.now s course.old (T.seen theory.old) (counts budget.old) wish }
-    ensures steps { (s : T.State) → IsDeciding T.relations clauses.now s course.old (T.seen theory.old) (counts budget.old) wish → Steps T.relations clauses.now s (work_left course.old (counts budget.old)) course.new (T.seen theory.new) (counts budget.new) result }
+    ensures turns { (s : T.State) → IsDeciding T.relations clauses.now s course.old (T.seen theory.old) (counts budget.old) wish → Turns T.relations clauses.now s (IsAllowedStop may_stop (G.stops clauses.now guide.new theory.new)) (work_left course.old (counts budget.old)) course.new (T.seen theory.new) (counts budget.new) result }
     ensures rows { (T.seen theory.new).rows ≡ (T.seen theory.old).rows }
     ensures limit { budget.new.limit ≡ budget.old.limit }
 {
@@ -180,6 +200,34 @@ fn decide<T: Theory, G: Guide<T>>(
         course.trail.as_slice(),
         &*theory,
     );
+    let preferred = match advice {
+        Advice::Decide(lit) => Some(lit),
+        Advice::Nothing => None,
+        Advice::Stop => {
+            if may_stop {
+                return Turn::Stops;
+            }
+            None
+        }
+    };
+    Turn::Takes(decide(alloc, clauses, course, theory, budget, preferred, wish))
+}
+
+/// Assumes a literal, or finds that each atom is on the trail.
+fn decide<T: Theory>(
+    alloc: Global,
+    clauses: &Clauses,
+    course: &mut Course,
+    theory: &mut T,
+    budget: &mut Budget,
+    advice: Option<Lit>,
+    wish: Option<Lit>,
+) -> Step
+    requires { (s : T.State) × IsDeciding T.relations clauses.now s course.old (T.seen theory.old) (counts budget.old) wish }
+    ensures steps { (s : T.State) → IsDeciding T.relations clauses.now s course.old (T.seen theory.old) (counts budget.old) wish → Steps T.relations clauses.now s (work_left course.old (counts budget.old)) course.new (T.seen theory.new) (counts budget.new) result }
+    ensures rows { (T.seen theory.new).rows ≡ (T.seen theory.old).rows }
+    ensures limit { budget.new.limit ≡ budget.old.limit }
+{
     match choose(&course.trail, advice, wish) {
         Some(lit) => {
             let heard = assume(course, theory, budget, lit, None);

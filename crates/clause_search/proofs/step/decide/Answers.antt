@@ -1,18 +1,9 @@
-use Rattle.std.proofs.Common.{None, sym, ◌∙◌, ap}
+use Rattle.std.proofs.Common.{None}
 use Rattle.whole.specs.Budget.{counts}
-use Rattle.clause_form.specs.Journals.{literals}
 use Rattle.clause_search.specs.Courses.{work_left}
 use Rattle.clause_search.proofs.AnswerLaws.{complete, may_decide, wish_free}
 use Rattle.clause_search.proofs.CourseLaws.{may_be_told}
 use Rattle.clause_search.proofs.step.decide.Goals as goal
-
-pub advise-advice-requires : goal.advise-advice-requires
-advise-advice-requires g c =
-    let old = c.requires.1.0.0.underway in record {
-      formed = old.formed;
-      rows = old.rows;
-      told = old.told ∙ ap literals (sym c.as_slice-2.ensures);
-    }
 
 pub choose-requires-clause-wish : goal.choose-requires-clause-wish
 choose-requires-clause-wish g c = wish_free g.T.Theory.relations c.args.clauses.now c.requires.0 c.args.course.now (g.T.Theory.seen c.args.theory.now) (counts c.args.budget.now) c.args.wish c.requires.1
