@@ -1,5 +1,4 @@
 -- What a guide's advice says.
-use Rattle.farkas_cert.specs.declared.literals.Lit.{Lit}
 use Rattle.clause_search.specs.declared.guide.Advice.{Advice}
 use Rattle.clause_search.specs.declared.guide.Advice.TheVariants as advice
 
