@@ -1,0 +1,6 @@
+pub mod Numbered
+pub mod Shapes
+pub mod Drawn
+pub mod Names
+pub mod DrawnLines
+pub mod DrawnTexts

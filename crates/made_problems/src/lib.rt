@@ -1,0 +1,6 @@
+//! The drawn controllers and questions are always accepted: no reader refuses a text of `ctrl_gen::make`.
+#![tactic(auto)]
+
+mod laws;
+
+pub use laws::drawn_controllers_are_accepted;
