@@ -4,3 +4,5 @@ pub mod Drawn
 pub mod Names
 pub mod DrawnLines
 pub mod DrawnTexts
+pub mod Denominators
+pub mod Unbroken
