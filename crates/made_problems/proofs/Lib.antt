@@ -6,3 +6,5 @@ pub mod DrawnLines
 pub mod DrawnTexts
 pub mod Denominators
 pub mod Unbroken
+pub mod Bounds
+pub mod QuestionTexts

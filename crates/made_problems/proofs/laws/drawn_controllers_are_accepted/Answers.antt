@@ -1,3 +1,5 @@
+use Rattle.made_problems.proofs.Bounds.{problem_bounded}
+use Rattle.made_problems.proofs.QuestionTexts.{question_printed}
 use Rattle.ctrl_gen.specs.Problems.{controller_of, problem_of, controller_text}
 use Rattle.made_problems.specs.Accepted.{IsControllerAccepted}
 use Rattle.made_problems.proofs.Drawn.{controller_drawn}
