@@ -8,3 +8,5 @@ pub mod Denominators
 pub mod Unbroken
 pub mod Bounds
 pub mod QuestionTexts
+pub mod QuestionMeant
+pub mod Acceptance

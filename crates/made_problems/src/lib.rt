@@ -3,4 +3,4 @@
 
 mod laws;
 
-pub use laws::drawn_controllers_are_accepted;
+pub use laws::drawn_problems_are_accepted;
