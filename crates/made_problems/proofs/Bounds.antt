@@ -1,5 +1,5 @@
 -- The numbers of a drawn question are within their limits.
-use Rattle.std.proofs.Common.{◌≡◌, ℕ, zero, suc, ◌+◌, ◌<◌, ◌≤◌, Option, Some, None, arith}
+use Rattle.std.proofs.Common.{ℕ, zero, suc, ◌+◌, ◌≤◌, Option, Some, None, arith}
 use Rattle.ctrl_gen.specs.Draws.{draw, each}
 use Rattle.ctrl_gen.specs.Problems.{Problem, buffer_by, drawn_buffer, drawn_state, drawn_rules, drawn_problem, problem_of}
 use Rattle.made_problems.proofs.Numbered.{draw_below}

@@ -1,11 +1,10 @@
 -- What is drawn has the shape.
-use Rattle.std.proofs.Common.{◌≡◌, ℕ, zero, suc, ◌+◌, ◌<◌, ◌≤◌, List, [], ◌∷◌, ◌++◌, arith}
-use Rattle.condition_syntax.specs.Trees.{Condition}
+use Rattle.std.proofs.Common.{ℕ, zero, suc, ◌+◌, ◌<◌, List, [], ◌∷◌, ◌++◌, arith}
 use Rattle.ctrl_syntax.specs.Sections.{Rule}
 use Rattle.ctrl_gen.specs.Draws.{draw, each}
 use Rattle.ctrl_gen.specs.Problems.{drawn_state, guard_by, drawn_guard, drawn_set, drawn_rule, drawn_rules, drawn_problem, otherwise, controller_of, problem_of}
 use Rattle.made_problems.proofs.Numbered.{Numbered, none, next, each_numbered, draw_below}
-use Rattle.made_problems.proofs.Shapes.{IsState, state, IsSum, IsSet, assigned, IsGuard, lost, acked, waits, IsRule, rule, AreRules, otherwise as last, before, AreFew, one, two, three, AreSections, sections}
+use Rattle.made_problems.proofs.Shapes.{IsState, state, IsSet, assigned, IsGuard, lost, acked, waits, IsRule, rule, AreRules, otherwise as last, before, AreFew, one, two, three, AreSections, sections}
 
 state_drawn : (j x : ℕ) → IsState j (drawn_state j x).0
 unfolding drawn_state

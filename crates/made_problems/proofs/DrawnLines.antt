@@ -1,26 +1,22 @@
 -- What is printed for a drawn line is read as tokens that spell it.
-use Rattle.std.proofs.Common.{◌≡◌, ℕ, zero, suc, ◌+◌, ◌≤◌, List, [], ◌∷◌, ◌++◌, length, true, false, Some, None, refl, arith}
+use Rattle.std.proofs.Common.{◌≡◌, ℕ, ◌+◌, ◌≤◌, List, [], ◌∷◌, length, true, false, Some, None, refl, arith}
 use Rattle.source_text.specs.Spelling.{is_word}
 use Rattle.condition_syntax.specs.Words.{is_keyword}
 use Rattle.std.specs.Prelude.{codes}
 use Rattle.source_text.specs.declared.lexemes.Sign.TheVariants.{Assign, Plus, Times, Above, AtLeast}
 use Rattle.source_text.specs.Tokens.{Token, word, number, sign}
-use Rattle.source_text.specs.Printed.{AreFromLine}
-use Rattle.source_text.specs.Shown.{Ahead}
-use Rattle.weighing.specs.declared.scales.Num.{Num}
 use Rattle.condition_syntax.specs.declared.conditions.Style.TheVariants.{Controller}
 use Rattle.condition_syntax.specs.Trees.{Condition, delay, comparisons}
-use Rattle.condition_syntax.specs.Grammar.{IsNumber, SpellsTerm, constant, multiple, single, SpellsName, plain, SpellsTerms, last_term, more_terms, SpellsExpr, unsigned, SpellsSimple, test, compared, SpellsOpened, simple, SpellsPart, one, SpellsCond}
+use Rattle.condition_syntax.specs.Grammar.{IsNumber, constant, multiple, single, SpellsName, plain, last_term, more_terms, unsigned, SpellsSimple, test, compared, simple, SpellsPart, one, SpellsCond}
 use Rattle.ctrl_syntax.specs.declared.syntax.StateLine.{StateLine}
 use Rattle.ctrl_syntax.specs.declared.syntax.SetLine.{SetLine}
 use Rattle.ctrl_syntax.specs.declared.syntax.RateLine.{RateLine}
-use Rattle.ctrl_syntax.specs.Sections.{state_at, set_at}
-use Rattle.ctrl_syntax.specs.Grammar.{SpellsBound, unsigned as bound, SpellsState, SpellsGuard, when, otherwise, SpellsSet, SpellsTitled}
+use Rattle.ctrl_syntax.specs.Grammar.{unsigned as bound, SpellsGuard, when, otherwise}
 use Rattle.ctrl_syntax.specs.Printed.{state_text, guard_text, set_text, titled_text}
 use Rattle.ctrl_syntax.proofs.LinesAgain.{at}
 use Rattle.ctrl_syntax.proofs.LineTexts.{PrintsLine, StateOn, state_prints, guard_prints, SetOn, set_prints, TitledOn, window_prints}
-use Rattle.ctrl_gen.specs.Problems.{over, alone, name_term, number_term, sum_of, state_name, signal_above}
-use Rattle.made_problems.proofs.Shapes.{IsState, state, IsSum, IsSet, assigned, IsGuard, lost, acked, waits}
+use Rattle.ctrl_gen.specs.Problems.{over, alone, name_term, sum_of, state_name, signal_above}
+use Rattle.made_problems.proofs.Shapes.{IsState, state, IsSet, assigned, IsGuard, lost, acked, waits}
 use Rattle.made_problems.proofs.Names.{name_is}
 
 whole_number : (n : ℕ) → n ≤ 1000 → IsNumber n None (over n 1)

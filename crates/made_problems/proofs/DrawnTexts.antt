@@ -1,5 +1,5 @@
 -- The printed text of drawn sections spells sections of the same shape.
-use Rattle.std.proofs.Common.{◌≡◌, ℕ, zero, suc, ◌+◌, ◌≤◌, List, [], ◌∷◌, ◌++◌, map, length, Some, None, refl, sym, ap, subst, ◌∙◌, append_assoc, arith}
+use Rattle.std.proofs.Common.{◌≡◌, ℕ, suc, ◌+◌, ◌≤◌, List, [], ◌∷◌, ◌++◌, map, length, Some, None, refl, sym, ap, subst, ◌∙◌, append_assoc, arith}
 use Rattle.std.specs.Prelude.{codes, flat_map}
 use Rattle.source_text.specs.Tokens.{Token, word}
 use Rattle.source_text.specs.Bytes.{behind_blanks}
@@ -10,13 +10,13 @@ use Rattle.source_text.proofs.LineLaws.{text_of-append, source_lines_printed}
 use Rattle.ctrl_syntax.specs.declared.syntax.StateLine.{StateLine}
 use Rattle.ctrl_syntax.specs.declared.syntax.SetLine.{SetLine}
 use Rattle.ctrl_syntax.specs.Sections.{Rule, Sections, state_at, set_at}
-use Rattle.ctrl_syntax.specs.Grammar.{SpellsState, SpellsGuard, SpellsSet, Each, none, one_more, SpellsRules, no_rule, a_rule, SpellsRate, no_rate, Spells, IsText}
+use Rattle.ctrl_syntax.specs.Grammar.{SpellsState, SpellsGuard, SpellsSet, Each, none, one_more, SpellsRules, no_rule, a_rule, no_rate, Spells, IsText}
 use Rattle.ctrl_syntax.specs.Printed.{state_text, guard_text, set_text, titled_text, line_text, rule_text, rate_text, printed}
 use Rattle.ctrl_syntax.proofs.LinesAgain.{at}
-use Rattle.ctrl_syntax.proofs.LineTexts.{PrintsLine, line_plain, StateOn, SetOn, TitledOn, end_prints}
+use Rattle.ctrl_syntax.proofs.LineTexts.{PrintsLine, line_plain, TitledOn, end_prints}
 use Rattle.ctrl_syntax.proofs.SectionTexts.{lines_at, lines_at-append, printed_at, Block, plain-append, no_lines_at, text-map, text-nil, text-cons, text-end, numbered-cons}
 use Rattle.made_problems.proofs.Numbered.{Numbered, none as no_more, next}
-use Rattle.made_problems.proofs.Shapes.{IsState, state, IsSet, assigned, IsRule, rule, AreRules, otherwise, before, AreFew, one, two, three, AreSections, sections}
+use Rattle.made_problems.proofs.Shapes.{IsState, state, IsSet, assigned, rule, AreRules, otherwise, before, AreFew, one, two, three, AreSections, sections}
 use Rattle.made_problems.proofs.DrawnLines.{state_shows, set_shows, guard_shows, otherwise_shows, window_line, window_shows}
 
 -- ---- lines one below the other, wherever they begin

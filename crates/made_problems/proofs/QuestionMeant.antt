@@ -1,5 +1,5 @@
 -- A drawn question breaks no rule, whatever controller it is about.
-use Rattle.std.proofs.Common.{◌≡◌, ℕ, ◌≤◌, ℤ, pos, negsuc, Bool, true, false, List, [], ◌∷◌, ◌++◌, map, Option, Some, None, Ok, refl, sym, ap, subst, ◌∙◌, arith, unsigned_abs}
+use Rattle.std.proofs.Common.{◌≡◌, ℕ, ◌≤◌, pos, negsuc, true, false, List, [], ◌∷◌, ◌++◌, map, Option, Some, Ok, refl, sym, ap, subst, ◌∙◌, arith, unsigned_abs}
 use Rattle.std.specs.Prelude.{All, nat_lt, nat_le}
 use Rattle.std.specs.Int.{◌∣◌}
 use Rattle.std.specs.List.{fold}
@@ -18,13 +18,13 @@ use Rattle.ctrl_types.specs.Statements.{any_comparison, condition_numbers}
 use Rattle.ctrl_types.specs.declared.controllers.Controller.{Controller}
 use Rattle.ctrl_types.specs.declared.controllers.State.{State}
 use Rattle.ctrl_types.proofs.DenominatorLaws.{least_over}
-use Rattle.question_syntax.specs.Sections.{Sections, Wanted, SameButLines, wanted_at, without_lines}
+use Rattle.question_syntax.specs.Sections.{Sections, Wanted, SameButLines, wanted_at}
 use Rattle.question_text.specs.Conditions.{comparison}
 use Rattle.question_text.specs.Naming.{count_named, step_in, flow_or_all, count_of, of_named, of_written, each_found, lin_meant}
-use Rattle.question_text.specs.Resolving.{Saying, path, wanted, sayings, number_of, buffer_numbers, numbers, Statement, statements, kind_of, names_kind, unknown_sides, mixed_sides, passes_limit, judged, IsUnbroken, SeenQuestion, meant, Resolves}
+use Rattle.question_text.specs.Resolving.{path, wanted, sayings, buffer_numbers, Statement, statements, kind_of, names_kind, unknown_sides, mixed_sides, passes_limit, judged, IsUnbroken, SeenQuestion, meant, Resolves}
 use Rattle.question_text.specs.declared.conditions.Of.TheVariants.{One, S}
 use Rattle.question_text.specs.declared.conditions.QLin.{QLin}
-use Rattle.ctrl_gen.specs.Problems.{Problem, over, pair_if, whole_pair, serves_at_least, setting_of, question_of}
+use Rattle.ctrl_gen.specs.Problems.{Problem, over, pair_if, serves_at_least, setting_of, question_of}
 use Rattle.made_problems.proofs.Bounds.{IsBuffer, unlimited, limited, IsBounded}
 
 -- ---- denominators of 1 leave the scale

@@ -1,16 +1,16 @@
 -- The printed text of a drawn question spells its sections but for line numbers.
-use Rattle.std.proofs.Common.{◌≡◌, ℕ, ◌≤◌, List, [], ◌∷◌, ◌++◌, length, true, false, Option, Some, None, refl, arith}
+use Rattle.std.proofs.Common.{ℕ, ◌≤◌, List, [], ◌∷◌, true, Option, Some, None, refl, arith}
 use Rattle.std.specs.Prelude.{codes}
 use Rattle.source_text.specs.declared.lexemes.Sign.TheVariants.{AtLeast, Minus, At}
 use Rattle.source_text.specs.Tokens.{Token, word, number, sign}
 use Rattle.source_text.specs.Shown.{Ahead}
 use Rattle.condition_syntax.specs.declared.conditions.Style.TheVariants.{Question}
 use Rattle.condition_syntax.specs.Words.{is_keyword}
-use Rattle.condition_syntax.specs.Grammar.{IsNumber, SpellsTerm, constant, single, SpellsName, placed, no_flow, some_step, last_term, more_terms, unsigned, compared, simple, SpellsPart, one, SpellsCond}
+use Rattle.condition_syntax.specs.Grammar.{IsNumber, constant, single, SpellsName, placed, no_flow, some_step, last_term, more_terms, unsigned, compared, simple, SpellsPart, one, SpellsCond}
 use Rattle.ctrl_syntax.specs.Grammar.{none}
 use Rattle.ctrl_syntax.proofs.LinesAgain.{at}
 use Rattle.ctrl_syntax.proofs.SectionTexts.{AreFromLines}
-use Rattle.question_syntax.specs.Grammar.{SpellsCount, count, SpellsRate, rate, SpellsBuffer, no_buffer, buffer, SpellsLine, SpellsSetting, SpellsWanted, Spells}
+use Rattle.question_syntax.specs.Grammar.{SpellsCount, count, rate, SpellsBuffer, no_buffer, buffer, SpellsLine, SpellsSetting, Spells}
 use Rattle.question_syntax.specs.Printed.{printed, SpellsAgain}
 use Rattle.question_syntax.proofs.Texts.{lines_printed}
 use Rattle.ctrl_gen.specs.Problems.{Problem, over, pair_if, served_by, serves_at_least, setting_of, question_of}

@@ -1,11 +1,11 @@
 -- The sections that are drawn, on whatever lines they stand.
-use Rattle.std.proofs.Common.{◌≡◌, ℕ, zero, suc, ◌+◌, ◌≤◌, List, [], ◌∷◌, ◌++◌, Some, None}
+use Rattle.std.proofs.Common.{ℕ, zero, suc, ◌≤◌, List, [], ◌∷◌, Some, None}
 use Rattle.std.specs.Prelude.{codes}
 use Rattle.condition_syntax.specs.Trees.{Condition, delay}
 use Rattle.ctrl_syntax.specs.declared.syntax.StateLine.{StateLine}
 use Rattle.ctrl_syntax.specs.declared.syntax.SetLine.{SetLine}
 use Rattle.ctrl_syntax.specs.Sections.{Rule, Sections, state_at, set_at}
-use Rattle.ctrl_gen.specs.Problems.{over, alone, name_term, number_term, sum_of, state_name, state_of, signal_above, set_of}
+use Rattle.ctrl_gen.specs.Problems.{over, alone, name_term, sum_of, state_name, state_of, signal_above, set_of}
 use Rattle.made_problems.proofs.Numbered.{Numbered}
 
 pub data IsState (j : ℕ) : StateLine → Type 0 where

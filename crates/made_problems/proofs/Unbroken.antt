@@ -1,11 +1,10 @@
 -- Drawn sections break no rule.
-use Rattle.std.proofs.Common.{◌≡◌, ℕ, zero, suc, ◌+◌, ◌<◌, ◌≤◌, Bool, true, false, List, [], ◌∷◌, ◌++◌, Option, Some, None, Ok, refl, sym, ap, subst, ◌∙◌, arith}
+use Rattle.std.proofs.Common.{◌≡◌, ℕ, zero, suc, ◌+◌, ◌≤◌, Bool, true, false, List, [], ◌∷◌, ◌++◌, Some, None, Ok, refl, ap, ◌∙◌, arith}
 use Rattle.std.specs.Prelude.{All, codes, slice_get}
 use Rattle.std.specs.Fmt.{digits}
 use Rattle.std.specs.List.{list_any}
 use Rattle.std.specs.Str.{bytes_eq}
 use Rattle.std.proofs.lemmas.Int.{ints}
-use Rattle.std.proofs.lemmas.Grind.{common_steps}
 use Rattle.std.proofs.lemmas.List.Elements.{All-append, All-nil, All-cons, All-head, All-tail}
 use Rattle.weighing.specs.First.{and_then, first}
 use Rattle.weighing.specs.declared.scales.Num.{Num}
@@ -19,7 +18,7 @@ use Rattle.ctrl_types.proofs.Agreement.{judged}
 use Rattle.ctrl_types.proofs.FirstLaws.{unbroken}
 use Rattle.ctrl_gen.specs.Problems.{over, alone, name_term, sum_of, state_name}
 use Rattle.made_problems.proofs.Numbered.{Numbered, none, next}
-use Rattle.made_problems.proofs.Shapes.{IsState, state, IsSum, IsSet, assigned, IsGuard, lost, acked, waits, IsRule, rule, AreRules, otherwise, before, AreFew, one, two, three, AreSections, sections}
+use Rattle.made_problems.proofs.Shapes.{IsState, state, IsSet, assigned, IsGuard, lost, acked, waits, rule, AreRules, otherwise, before, AreFew, one, two, three, AreSections, sections}
 use Rattle.made_problems.proofs.Denominators.{IsSmall, small, common_within}
 
 -- ---- what a line says breaks no rule
