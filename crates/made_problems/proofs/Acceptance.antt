@@ -1,5 +1,5 @@
 -- The texts that are drawn are accepted.
-use Rattle.std.proofs.Common.{◌≡◌, ℕ, ◌≤◌, unsigned_abs, refl, arith}
+use Rattle.std.proofs.Common.{◌≡◌, ℕ, ◌-◌, ◌^◌, ◌<◌, ◌≤◌, length, unsigned_abs, refl, arith}
 use Rattle.std.proofs.lemmas.Int.{ints}
 use Rattle.ctrl_types.specs.Denominators.{IsScale}
 use Rattle.ctrl_types.specs.Limits.{IsController}
@@ -17,6 +17,7 @@ use Rattle.made_problems.proofs.DrawnTexts.{drawn_printed}
 use Rattle.made_problems.proofs.Unbroken.{drawn_unbroken}
 use Rattle.made_problems.proofs.Bounds.{problem_bounded}
 use Rattle.made_problems.proofs.QuestionTexts.{question_printed}
+use Rattle.made_problems.proofs.Lengths.{controller_short, question_short}
 use Rattle.made_problems.proofs.QuestionMeant.{same_unbroken, same_resolved}
 
 pub controller_accepted : (seed : ℕ) → IsControllerAccepted (controller_text seed)
@@ -51,3 +52,11 @@ never_refused seed size from to (fault.Question r) refused =
     let text = question_accepted seed size from to refused.asked refused.controller_is.limits in
     absurd (questions.not_both refused.asked (question_text seed size) r text.question refused.refused text.text)
 never_refused seed size from to fault.NoMemory fails = refl
+
+pub controller_is_short : (seed : ℕ) → length (controller_text seed) < 2 ^ 32 - 1
+unfolding controller_text
+controller_is_short seed = controller_short (controller_of (problem_of seed)) (controller_drawn seed)
+
+pub question_is_short : (seed size : ℕ) → size ≤ 32 → length (question_text seed size) < 2 ^ 32 - 1
+unfolding question_text
+question_is_short seed size to = question_short (problem_of seed) size (problem_bounded seed) to

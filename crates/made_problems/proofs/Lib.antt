@@ -9,4 +9,5 @@ pub mod Unbroken
 pub mod Bounds
 pub mod QuestionTexts
 pub mod QuestionMeant
+pub mod Lengths
 pub mod Acceptance

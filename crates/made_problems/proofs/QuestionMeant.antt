@@ -53,7 +53,7 @@ step_known : (s : Setting) (t : ℕ) → t ≤ s.steps → step_in s (Some t) �
 unfolding step_in
 step_known s t to = let e : nat_le t s.steps ≡ true = grind (arith, common_steps) in rw e refl
 
-abbrev minus_one : Num
+abbrev pub minus_one : Num
 minus_one = record { num = negsuc 0; den = pos 1 }
 
 abbrev left_meant : ℕ → QLin
