@@ -1,7 +1,8 @@
 -- The texts that are drawn are accepted.
-use Rattle.std.proofs.Common.{◌≡◌, ℕ, ◌-◌, ◌^◌, ◌<◌, ◌≤◌, length, unsigned_abs, refl, arith}
+use Rattle.std.proofs.Common.{◌≡◌, ℕ, ◌-◌, ◌^◌, ◌<◌, ◌≤◌, List, length, unsigned_abs, refl, sym, ap, subst, ◌∙◌, arith}
 use Rattle.std.proofs.lemmas.Int.{ints}
 use Rattle.ctrl_types.specs.Denominators.{IsScale}
+use Rattle.whole.specs.declared.answers.Refusal.{Refusal}
 use Rattle.ctrl_types.specs.Limits.{IsController}
 use Rattle.ctrl_types.specs.declared.controllers.Controller.{Controller}
 use Rattle.ctrl_types.proofs.FirstLaws.{never_both}
@@ -60,3 +61,23 @@ controller_is_short seed = controller_short (controller_of (problem_of seed)) (c
 pub question_is_short : (seed size : ℕ) → size ≤ 32 → length (question_text seed size) < 2 ^ 32 - 1
 unfolding question_text
 question_is_short seed size to = question_short (problem_of seed) size (problem_bounded seed) to
+
+-- ---- of bytes that are drawn texts
+
+pub short_as_controller : (bytes : List ℕ) (seed : ℕ) → bytes ≡ controller_text seed → length bytes < 2 ^ 32 - 1
+short_as_controller bytes seed same = subst (λ (x : List ℕ). length x < 2 ^ 32 - 1) (sym same) (controller_is_short seed)
+
+pub short_as_question : (bytes : List ℕ) (seed size : ℕ) → size ≤ 32 → bytes ≡ question_text seed size → length bytes < 2 ^ 32 - 1
+short_as_question bytes seed size to same = subst (λ (x : List ℕ). length x < 2 ^ 32 - 1) (sym same) (question_is_short seed size to)
+
+module _ (seed size : ℕ) (from : 1 ≤ size) (to : size ≤ 32) (x y : List ℕ) (x_is : x ≡ controller_text seed) (y_is : y ≡ question_text seed size) where
+  only_memory : (f : AskFault) → AskFails x y f → f ≡ fault.NoMemory
+  only_memory f fails =
+      never_refused seed size from to f
+      (subst (λ (t : List ℕ). AskFails (controller_text seed) t f) y_is (subst (λ (t : List ℕ). AskFails t y f) x_is fails))
+
+  pub no_controller : (f : AskFault) (r : Refusal) → f ≡ fault.Controller r → AskFails x y f → ⊥
+  no_controller f r is fails = let none = only_memory f fails in absurd (cc)
+
+  pub no_question : (f : AskFault) (r : Refusal) → f ≡ fault.Question r → AskFails x y f → ⊥
+  no_question f r is fails = let none = only_memory f fails in absurd (cc)
