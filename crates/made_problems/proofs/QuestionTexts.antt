@@ -58,11 +58,11 @@ require_spelled steps least to =
             c ∷ [],
             (
               one (
-                simple (
+                  simple (
                   compared AtLeast (unsigned (more_terms {next = true} (single (served_spelled steps)) (last_term (single (served_spelled 0)))) (omega arith)) refl
                   (unsigned (last_term (constant (whole_number least to))) (omega arith))
-                )
-              ),
+                  )
+                  ),
               refl,
             ),
           ),
@@ -134,8 +134,7 @@ all_from p steps is to =
     let flows_to = is.flows_to in
     let jitter_to = is.jitter_to in
     let rtt_to = is.rtt_to in
-    let least_to = is.least_to in
-    (
+    let least_to = is.least_to in (
       (refl, (omega arith, tt)),
       (
         (refl, (omega arith, tt)),
