@@ -1,20 +1,19 @@
 -- The drawn texts are short.
-use Rattle.std.proofs.Common.{◌≡◌, ℕ, zero, suc, ◌+◌, ◌*◌, ◌-◌, ◌<◌, ◌≤◌, ◌^◌, Bool, true, false, cond, List, [], ◌∷◌, ◌++◌, length, Option, Some, None, length-append, refl, arith}
+use Rattle.std.proofs.Common.{ℕ, suc, ◌+◌, ◌*◌, ◌-◌, ◌<◌, ◌≤◌, ◌^◌, Bool, true, false, cond, List, [], ◌∷◌, ◌++◌, length, Option, length-append, arith}
 use Rattle.std.specs.Prelude.{codes, flat_map, ◌==◌, pos, int_lt}
 use Rattle.std.specs.Fmt.{decimal}
 use Rattle.std.proofs.lemmas.Fmt.{length-decimal-le}
 use Rattle.condition_syntax.specs.declared.expressions.ETerm.{ETerm}
-use Rattle.condition_syntax.specs.declared.expressions.Expr.{Expr}
 use Rattle.condition_syntax.specs.Trees.{Condition}
-use Rattle.condition_syntax.specs.Printing.{denominator_text, number_text, name_text, factor_text, is_unit, is_negative, unsigned_text, first_text, later_text, expr_text, condition_text}
+use Rattle.condition_syntax.specs.Printing.{denominator_text, number_text, name_text, is_unit, is_negative, unsigned_text, first_text, later_text, expr_text, condition_text}
 use Rattle.ctrl_syntax.specs.declared.syntax.StateLine.{StateLine}
 use Rattle.ctrl_syntax.specs.declared.syntax.SetLine.{SetLine}
 use Rattle.ctrl_syntax.specs.Sections.{Rule, Sections}
-use Rattle.ctrl_syntax.specs.Printed.{bound_text, state_text, guard_text, set_text, titled_text, line_text, rule_text, printed}
-use Rattle.question_syntax.specs.Printed.{count_text, rate_text, buffer_text, setting_text, wanted_text, printed as question_printed}
-use Rattle.ctrl_gen.specs.Problems.{Problem, over, alone, name_term, number_term, sum_of, state_name, served_by, serves_at_least, pair_if, setting_of, question_of}
+use Rattle.ctrl_syntax.specs.Printed.{bound_text, state_text, set_text, line_text, rule_text, printed}
+use Rattle.question_syntax.specs.Printed.{buffer_text, setting_text, printed as question_printed}
+use Rattle.ctrl_gen.specs.Problems.{Problem, over, alone, name_term, number_term, state_name, served_by, serves_at_least, pair_if, setting_of, question_of}
 use Rattle.made_problems.proofs.Numbered.{Numbered, none, next}
-use Rattle.made_problems.proofs.Shapes.{IsState, state, IsSum, IsSet, assigned, IsGuard, lost, acked, waits, IsRule, rule, AreRules, otherwise, before, AreFew, one, two, three, AreSections, sections}
+use Rattle.made_problems.proofs.Shapes.{IsState, state, IsSet, assigned, IsGuard, lost, acked, waits, rule, AreRules, otherwise, before, AreFew, one, two, three, AreSections, sections}
 use Rattle.made_problems.proofs.Names.{name_is}
 use Rattle.made_problems.proofs.Bounds.{IsBuffer, unlimited, limited, IsBounded}
 use Rattle.made_problems.proofs.QuestionMeant.{minus_one}
