@@ -1,0 +1,13 @@
+pub mod Numbered
+pub mod Shapes
+pub mod Drawn
+pub mod Names
+pub mod DrawnLines
+pub mod DrawnTexts
+pub mod Denominators
+pub mod Unbroken
+pub mod Bounds
+pub mod QuestionTexts
+pub mod QuestionMeant
+pub mod Lengths
+pub mod Acceptance
