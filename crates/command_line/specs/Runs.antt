@@ -1,16 +1,15 @@
 -- How a command line ends.
-use Rattle.std.specs.Prelude.{◌≡◌, ℕ, ◌≤◌, ◌==◌, true, false, List, [], Option, None, Some, if◌then◌else◌}
-use Rattle.std.specs.Str.Lossy.{utf8_lossy}
+use Rattle.std.specs.Prelude.{◌≡◌, ℕ, ◌≤◌, true, false, List, [], Option, None, Some}
 use Rattle.ccac_ports.specs.Ports.{Appends, Got, Told}
 use Rattle.ccac_cli.specs.Ended.{Ends}
-use Rattle.ccac_cli.specs.Reports.{Answer}
-use Rattle.ccac_cli.specs.Settled.{Delivered}
 use Rattle.command_words.specs.Forms.{Asked}
-use Rattle.report_json.specs.Lines.{json_line}
+use Rattle.command_table.specs.Plain.{plain_of, wants_json}
+use Rattle.report_put.specs.Json.{text_as_json}
+use Rattle.report_put.specs.Put.{IsPut}
+use Rattle.gen_report.specs.Words.{Seeded, seeded_by}
 use Rattle.command_line.specs.Carried.{CarriesOut}
-use Rattle.command_line.specs.Generated.{Generates, Seeded, seeded_by}
+use Rattle.command_line.specs.Generated.{Generates}
 use Rattle.command_line.specs.Kept.{empty, holding}
-use Rattle.command_line.specs.Plain.{plain_of, wants_json}
 
 -- ---- words without options
 
@@ -24,17 +23,10 @@ Carries old new words before after status = CarriesBy (seeded_by words) old new 
 
 -- ---- reports as JSON
 
--- the report with this status and this text as a line of JSON; but that of usage (4) stays as it is
-abbrev pub text_as_json : ℕ → List ℕ → List ℕ
-text_as_json status text = if status == 4 then text else json_line status (utf8_lossy text)
-
-abbrev pub as_json : ℕ → List ℕ → Answer
-as_json status text = record { status = status; text = text_as_json status text }
-
 -- the words were carried out before a sink in memory, and what it got was put as JSON; or memory ran out
 pub data InJson (old new : Told) (words : List (List ℕ)) (before after : Got) : ℕ → Type 0 where
   put : (text : List ℕ) (faults told status : ℕ) → told ≤ 5 → Carries old new words empty (holding text faults) told
-      → Delivered (as_json told text) before after status → InJson old new words before after status
+      → IsPut told (text_as_json told text) before after status → InJson old new words before after status
   ran_out : Appends before.text after.text [] → InJson old new words before after 7
 
 -- ---- command lines

@@ -1,14 +1,11 @@
-ghost use Rattle.std.specs.Prelude.{◌≡◌, IfOk, map, string_bytes};
-ghost use Rattle.command_line.specs.Runs.{InJson, text_as_json};
+ghost use Rattle.std.specs.Prelude.{map, string_bytes};
+ghost use Rattle.command_line.specs.Runs.{InJson};
 
-use crate::carrying::{NO_MEMORY, carry_out, deliver};
+use crate::carrying::carry_out;
 use crate::generating::LAST_WHOLE;
 use ccac_ports::{Folder, MemSink, Sink};
-use report_json::report_line;
-use std::alloc::{AllocError, Global};
-
-/// The status of usage, whose report never is JSON.
-const USAGE: u8 = 4;
+use report_put::{NO_MEMORY, put_as_json};
+use std::alloc::Global;
 
 /// Carries out words without options, and puts the report as a line of JSON.
 pub(crate) fn in_json<F: Folder, S: Sink>(
@@ -24,19 +21,5 @@ pub(crate) fn in_json<F: Folder, S: Sink>(
     if status > LAST_WHOLE {
         return NO_MEMORY;
     }
-    match line_of(alloc, status, kept.text()) {
-        Ok(line) => deliver(status, line.as_slice(), out),
-        Err(_) => NO_MEMORY,
-    }
-}
-
-/// The text of the report as it is put.
-fn line_of(alloc: Global, status: u8, text: &[u8]) -> Result<Vec<u8>, AllocError>
-    ensures { IfOk result (λ line. line.items ≡ text_as_json status text.now) }
-{
-    if status == USAGE {
-        Vec::from_slice(alloc, text)
-    } else {
-        Ok(report_line(alloc, status, text)?.into_bytes())
-    }
+    put_as_json(alloc, status, kept.text(), out)
 }

@@ -6,7 +6,6 @@
 mod carrying;
 mod generating;
 mod json;
-mod plain;
 mod running;
 #[cfg(test)]
 mod tests;

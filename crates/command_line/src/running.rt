@@ -1,12 +1,13 @@
 ghost use Rattle.std.specs.Prelude.{map, string_bytes};
 ghost use Rattle.command_words.specs.Forms.{asked_of};
-ghost use Rattle.command_line.specs.Commands.{commands};
+ghost use Rattle.command_table.specs.Commands.{commands};
 ghost use Rattle.command_line.specs.Runs.{Runs};
 
-use crate::carrying::{NO_MEMORY, carry_out};
+use crate::carrying::carry_out;
 use crate::json::in_json;
-use crate::plain::plain_words;
 use ccac_ports::{Folder, Sink};
+use command_table::plain_words;
+use report_put::NO_MEMORY;
 use std::alloc::Global;
 use whole::NoMemory;
 

@@ -107,7 +107,14 @@ fn a_generated_problem_is_judged(rt: HostRuntime) -> Result<(), Fail> {
         assert_eq!(rt; status, 0, "{line}");
         assert!(rt; text.as_str() == want, "{line}");
     }
-    for line in ["gen 7 0", "gen 7 33", "gen 18446744073709551616 1", "gen 07 1", "gen 7", "gen seven 1 --json"] {
+    for line in [
+        "gen 7 0",
+        "gen 7 33",
+        "gen 18446744073709551616 1",
+        "gen 07 1",
+        "gen 7",
+        "gen seven 1 --json",
+    ] {
         let (status, text) = ended(alloc, line)?;
         assert_eq!(rt; status, 4, "{line}");
         assert!(rt; text.as_str() == "usage\n", "{line}");

@@ -1,0 +1,76 @@
+use crate::plain_words;
+use std::alloc::Global;
+use std::test::Fail;
+
+/// The words of a line without options, each in brackets, and `json` behind them where the report is to be JSON.
+fn plain(alloc: Global, line: &str) -> Result<String, Fail> {
+    let mut words = Vec::new(alloc);
+    for word in line.split_whitespace() {
+        words.push(String::from_str(alloc, word)?)?;
+    }
+    let plain = plain_words(alloc, words.as_slice())?;
+    let mut text = String::new(alloc);
+    for word in &plain.words {
+        text.push('[')?;
+        text.push_str(word.as_str())?;
+        text.push(']')?;
+    }
+    if plain.json {
+        text.push_str(" json")?;
+    }
+    Ok(text)
+}
+
+#[test]
+fn each_command_takes_its_values(rt: HostRuntime) -> Result<(), Fail> {
+    let alloc = rt.alloc();
+    for (line, want) in [
+        ("check c q", "[check][c][q]"),
+        ("audit c q k", "[audit][c][q][k]"),
+        ("replay c q t", "[replay][c][q][t]"),
+        ("admit q t", "[admit][q][t]"),
+        ("fmt c", "[fmt][c]"),
+        ("fmt c q", "[fmt][c][q]"),
+        ("gen 7 1", "[gen][7][1]"),
+    ] {
+        assert!(rt; plain(alloc, line)?.as_str() == want, "{line}");
+    }
+    Ok(())
+}
+
+#[test]
+fn options_are_taken_off(rt: HostRuntime) -> Result<(), Fail> {
+    let alloc = rt.alloc();
+    for line in [
+        "check --json c q",
+        "check c q --json",
+        "check --json -- c q",
+    ] {
+        assert!(rt;
+            plain(alloc, line)?.as_str() == "[check][c][q] json",
+            "{line}"
+        );
+    }
+    assert!(rt; plain(alloc, "fmt -- --json")?.as_str() == "[fmt][--json]");
+    Ok(())
+}
+
+#[test]
+fn other_words_ask_for_nothing(rt: HostRuntime) -> Result<(), Fail> {
+    let alloc = rt.alloc();
+    for line in [
+        "",
+        "chec c q",
+        "check c",
+        "check c q r",
+        "check c q --help",
+        "check --json c q --json",
+        "--json check c q",
+        "gen 7",
+        "audit c q",
+        "admit c q t",
+    ] {
+        assert!(rt; plain(alloc, line)?.as_str() == "", "{line}");
+    }
+    Ok(())
+}
