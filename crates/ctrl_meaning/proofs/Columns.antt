@@ -1,19 +1,19 @@
 -- A controller's claims over columns: those by any terms are the written claims with these terms, and name entries of the
 -- shape alone.
-use Rattle.std.proofs.Common.{◌≡◌, ℕ, ◌-◌, ◌<◌, ◌≤◌, ℤ, pos, neg_ℤ, negsuc, Option, Some, None, List, [], ◌∷◌, ◌++◌, map, refl, ◌∙◌, ap, arith}
+use Rattle.std.proofs.Common.{◌≡◌, ℕ, ◌-◌, ◌<◌, ◌≤◌, ℤ, pos, neg_ℤ, Option, Some, None, List, ◌∷◌, ◌++◌, map, refl, ◌∙◌, ap, arith}
 use Rattle.std.specs.Prelude.{All}
 use Rattle.std.proofs.lemmas.List.{map-append}
-use Rattle.condition_tree.specs.Trees.{EachLeaf, leaf}
-use Rattle.weighing.specs.Claim.{Claims, Compared, all_claims, compare}
+use Rattle.condition_tree.specs.Trees.{EachLeaf}
+use Rattle.weighing.specs.Claim.{Compared, all_claims, compare}
 use Rattle.weighing.specs.Scaled.{scaled}
 use Rattle.weighing.specs.declared.scales.Side.{Side}
 use Rattle.weighing.specs.declared.scales.Side.TheVariants.{Left, Right}
-use Rattle.weighing.specs.declared.weighings.Rel5.TheVariants.{AtLeast, AtMost, Equal}
+use Rattle.weighing.specs.declared.weighings.Rel5.TheVariants.{Equal}
 use Rattle.run_rows.specs.Columns.{HasFlow, rows_of}
 use Rattle.run_rows.specs.Runs.{state_count}
 use Rattle.run_rows.specs.declared.shapes.Shape.{Shape}
-use Rattle.claims.specs.Subjects.{Part, Subject, Symbolic, constant, made, of_arrivals, of_service, of_state, part, with_terms}
-use Rattle.claims.specs.Columns.{EachIn, IsIn, IsOver}
+use Rattle.claims.specs.Subjects.{Subject, constant, made, of_arrivals, of_service, of_state, part, with_terms}
+use Rattle.claims.specs.Columns.{EachIn, IsOver}
 use Rattle.claims.proofs.Made.{both_in}
 use Rattle.claims.proofs.Leaves.{flat_map_in, flat_map_made, leaves_made, leaves_over, remade}
 use Rattle.ctrl_types.specs.Limits.{IsSource}
@@ -23,8 +23,8 @@ use Rattle.ctrl_types.specs.declared.expressions.Lin.{Lin}
 use Rattle.ctrl_types.specs.declared.expressions.LinTerm.{LinTerm}
 use Rattle.ctrl_types.specs.declared.expressions.Source.{Source}
 use Rattle.ctrl_types.specs.declared.expressions.Source.TheVariants.{One, State as StateSource, Acked, Lost}
-use Rattle.ctrl_meaning.specs.Expressions.{comparison_claim, lin_terms, scale_of_two, scale_with, source_terms, term_terms}
-use Rattle.ctrl_meaning.specs.Guards.{delay_claim, leaf_claim, test_claim}
+use Rattle.ctrl_meaning.specs.Expressions.{lin_terms, scale_of_two, scale_with, source_terms, term_terms}
+use Rattle.ctrl_meaning.specs.Guards.{leaf_claim, test_claim}
 use Rattle.ctrl_meaning.specs.Opening.{range_claims}
 use Rattle.ctrl_meaning.specs.Readings.{losses_heard}
 use Rattle.ctrl_meaning.specs.Sends.{growth_terms, paced_claim, rate_terms, send_claim, unpaced_claim, window_terms}

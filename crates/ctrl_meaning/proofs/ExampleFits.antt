@@ -30,7 +30,7 @@ use Rattle.ctrl_types.specs.declared.gates.Gate.TheOpen.{Gate-F}
 use Rattle.ctrl_types.specs.declared.gates.Gate.TheVariants.{True, Cmp, rolls-True, rolls-Cmp}
 use Rattle.ctrl_meaning.specs.Example.{controller, one_flow, otherwise, plain, run, setting, single, when_heard}
 use Rattle.ctrl_meaning.specs.Limits.{FitsBoth, IsControlled}
-use Rattle.ctrl_meaning.proofs.Sums.{entry_is, given}
+use Rattle.claim_values.proofs.Sums.{entry_is, given}
 
 pub one_of : {X : Type 0} (P : X → Type 0) (x : X) → P x → All P (x ∷ [])
 one_of P x here = All-cons P x [] here (All-nil P)

@@ -1,7 +1,7 @@
 -- The claims on the flows of a row over columns: those by any terms are the written claims with these terms, and name entries
 -- of the shape alone. So they hold of some columns exactly where what is asked of the flows holds of the run of these columns.
-use Rattle.std.proofs.Common.{◌≡◌, ℕ, ◌+◌, ◌-◌, ◌<◌, ◌≤◌, ◌==◌, Bool, true, false, ℤ, pos, ◌≤ℤ◌, Option, Some, None, List, [], ◌∷◌, ◌++◌, get_or, length, map, refl, sym, ◌∙◌, ap, subst, arith}
-use Rattle.std.specs.Prelude.{All, nat_lt, if◌then◌else◌}
+use Rattle.std.proofs.Common.{◌≡◌, ℕ, ◌-◌, ◌<◌, ◌≤◌, ◌==◌, Bool, ℤ, pos, ◌≤ℤ◌, Option, Some, None, List, [], ◌∷◌, ◌++◌, get_or, length, map, refl, sym, ◌∙◌, ap, subst, arith}
+use Rattle.std.specs.Prelude.{All, nat_lt}
 use Rattle.std.proofs.lemmas.Bool.Decides.{nat_tests}
 use Rattle.std.proofs.lemmas.List.Elements.{All-append, All-cons, All-map, All-nil}
 use Rattle.condition_tree.specs.Trees.{EachLeaf, all_of, always, any_of, conjunction, end_of_all, end_of_any, leaf, never, opposite}
@@ -10,8 +10,8 @@ use Rattle.claims.specs.Columns.{IsOver, column_value, run_of}
 use Rattle.claims.proofs.Made.{claim_made, claim_read}
 use Rattle.weighing.specs.Claim.{Claims, Compared, Holds}
 use Rattle.weighing.specs.First.{below}
-use Rattle.run_rows.specs.Columns.{HasFlow, rows_of, value_at}
-use Rattle.run_rows.specs.Runs.{Shaped, state_count}
+use Rattle.run_rows.specs.Columns.{rows_of, value_at}
+use Rattle.run_rows.specs.Runs.{state_count}
 use Rattle.run_rows.specs.declared.rows.Run.{Run}
 use Rattle.run_rows.specs.declared.shapes.Shape.{Shape}
 use Rattle.run_rows.proofs.EntryPlaces.{state_count_after}
@@ -31,10 +31,10 @@ use Rattle.ctrl_meaning.specs.Steps.{sending, set_claim, set_of, stepping}
 use Rattle.ctrl_meaning.specs.declared.readings.Reading.{Reading}
 use Rattle.path_server.proofs.RowColumns.{map-flat_map}
 use Rattle.path_server.proofs.AdmissionLaws.{all_below, all_flat_map}
-use Rattle.ctrl_meaning.proofs.ClaimLists.{conjunction_leaves, conjunction_with, each_flows_made, flows_of_each, joined_made, maps_agree, maps_made}
+use Rattle.claim_values.proofs.ClaimLists.{conjunction_leaves, conjunction_with, each_flows_made, flows_of_each, joined_made, maps_agree, maps_made}
 use Rattle.ctrl_meaning.proofs.Columns.{AreSources, IsReadingOf, LeafIn, OptionIn, range_over, send_made, send_over, set_made, set_over, test_made, test_over}
 use Rattle.ctrl_meaning.proofs.FlowRows.{flows_mean}
-use Rattle.ctrl_meaning.proofs.MadeShape.{made_shape}
+use Rattle.claim_values.proofs.MadeShape.{made_shape}
 
 -- ---- by any terms
 

@@ -7,7 +7,7 @@ use Rattle.std.proofs.lemmas.List.Elements.{All-append, All-cons, All-head, All-
 use Rattle.whole.proofs.Integers.{≤ℤ_or_>}
 use Rattle.condition_tree.specs.Trees.{always, never, leaf, opposite, end_of_all, all_of, end_of_any, any_of}
 use Rattle.claims.specs.Subjects.{in_run}
-use Rattle.weighing.specs.Claim.{Claim, ComparedHolds, Holds, all_claims, total}
+use Rattle.weighing.specs.Claim.{Claim, ComparedHolds, Holds, total}
 use Rattle.weighing.specs.First.{below}
 use Rattle.weighing.specs.Weighed.{Stands}
 use Rattle.weighing.specs.declared.weighings.Rel5.{Rel5}
@@ -22,7 +22,7 @@ use Rattle.ctrl_meaning.specs.Steps.{set_claim, set_of}
 use Rattle.ctrl_meaning.specs.declared.readings.Reading.{Reading}
 use Rattle.path_server.proofs.RowColumns.{each_below}
 use Rattle.path_server.proofs.AdmissionLaws.{all_below}
-use Rattle.ctrl_meaning.proofs.ClaimLists.{both_halves, conjunction_means, each_of_map}
+use Rattle.claim_values.proofs.ClaimLists.{both_halves, conjunction_means, each_of_map}
 use Rattle.ctrl_meaning.proofs.Readiness.{IsStepReady}
 use Rattle.ctrl_meaning.proofs.StepLaws.{guard_means, one_fires, state_means}
 

@@ -1,5 +1,5 @@
 -- The claims on the flows of a row hold in a run exactly where what is asked of the flows there does.
-use Rattle.std.proofs.Common.{◌≡◌, ℕ, ◌+◌, ◌-◌, ◌<◌, ◌≤◌, ◌==◌, Bool, true, false, List, [], ◌∷◌, ◌++◌, length, refl, sym, subst, arith}
+use Rattle.std.proofs.Common.{◌≡◌, ℕ, ◌-◌, ◌<◌, ◌≤◌, ◌==◌, Bool, true, false, List, [], ◌∷◌, length, refl, sym, subst, arith}
 use Rattle.std.specs.Prelude.{All, nat_lt, if◌then◌else◌}
 use Rattle.std.proofs.lemmas.Bool.Decides.{nat_tests}
 use Rattle.std.proofs.lemmas.List.Elements.{All-append, All-cons, All-head, All-nil}
@@ -10,20 +10,19 @@ use Rattle.run_rows.specs.Runs.{state_of}
 use Rattle.run_rows.specs.declared.rows.Run.{Run}
 use Rattle.path_server.proofs.RuleColumns.{each_holds}
 use Rattle.path_server.proofs.RuleLaws.{Means}
-use Rattle.path_server.specs.Limits.{IsSetting}
 use Rattle.path_server.specs.declared.settings.Setting.{Setting}
 use Rattle.ctrl_types.specs.Limits.{IsController}
 use Rattle.ctrl_types.specs.declared.controllers.Controller.{Controller}
 use Rattle.ctrl_meaning.specs.Flows.{FlowsHold, controlled_row_claims, flow_claims, opening_claims, opening_row_claims, step_claims}
 use Rattle.ctrl_meaning.specs.Limits.{HasShape, IsControlled}
-use Rattle.ctrl_meaning.specs.Meaning.{IsStep, OpensWithin, Sends, Steps, den_of_all}
+use Rattle.ctrl_meaning.specs.Meaning.{IsStep, OpensWithin, Sends, den_of_all}
 use Rattle.ctrl_meaning.specs.Opening.{declared_state, opening_row, range_claims}
 use Rattle.ctrl_meaning.specs.Sends.{send_claim}
 use Rattle.ctrl_meaning.specs.Steps.{sending, stepping}
 use Rattle.ctrl_meaning.specs.declared.readings.Reading.{Reading}
 use Rattle.path_server.proofs.RowColumns.{each_below, each_of_joined}
 use Rattle.path_server.proofs.AdmissionLaws.{all_below, all_flat_map}
-use Rattle.ctrl_meaning.proofs.ClaimLists.{both_halves, each_of_flows, flows_of_each}
+use Rattle.claim_values.proofs.ClaimLists.{both_halves, each_of_flows, flows_of_each}
 use Rattle.ctrl_meaning.proofs.FlowLaws.{step_means}
 use Rattle.ctrl_meaning.proofs.OpeningLaws.{range_means}
 use Rattle.ctrl_meaning.proofs.Readiness.{IsStepReady, has_den, states_stand, step_ready}

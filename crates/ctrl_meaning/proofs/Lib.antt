@@ -1,10 +1,8 @@
-pub mod ClaimLists
 pub mod Columns
 pub mod ExampleFits
 pub mod FlowColumns
 pub mod FlowLaws
 pub mod FlowRows
-pub mod MadeShape
 pub mod OpeningLaws
 pub mod Questions
 pub mod Readiness

@@ -1,6 +1,6 @@
 -- What the answers about the opening row say.
 use Rattle.weighing.specs.Weighed.{times}
-use Rattle.std.proofs.Common.{◌≡◌, ℕ, ℤ, pos, neg_ℤ, ◌+ℤ◌, ◌*ℤ◌, ◌≤ℤ◌, ◌⊎◌, inl, inr, true, false, Option, Some, None, Result, Ok, Err, length, refl, ap, arith}
+use Rattle.std.proofs.Common.{◌≡◌, ℕ, ℤ, pos, neg_ℤ, ◌+ℤ◌, ◌*ℤ◌, ◌≤ℤ◌, ◌⊎◌, inl, inr, false, Option, Some, None, Result, Ok, Err, length, refl, ap, arith}
 use Rattle.std.proofs.lemmas.Int.{ints}
 use Rattle.whole.specs.declared.answers.Stuck.{Stuck}
 use Rattle.whole.proofs.Integers.{neg_ℤ-*ℤ}

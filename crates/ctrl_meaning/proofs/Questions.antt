@@ -19,7 +19,7 @@ use Rattle.ctrl_meaning.specs.Guards.{test_claim}
 use Rattle.ctrl_meaning.specs.Opening.{declared_state, no_state, range_claims, state_in_range}
 use Rattle.ctrl_meaning.specs.Steps.{fired, firing, guard_outcome, set_claim, set_outcome}
 use Rattle.ctrl_meaning.specs.declared.readings.Reading.{Reading}
-use Rattle.ctrl_meaning.proofs.Sums.{entry_is, given}
+use Rattle.claim_values.proofs.Sums.{entry_is, given}
 
 -- what stands at a place of a list, whatever stands for a place past its end
 read_of : {X : Type 0} (xs ys : List X) (k : ℕ) (x d : X) → xs ≡ ys → k < length xs → x ≡ get_or xs k x → x ≡ get_or ys k d

@@ -8,7 +8,7 @@ use Rattle.std.proofs.lemmas.Nat.Gcd.{le_of_dvd}
 use Rattle.std.proofs.lemmas.List.Elements.{All-head, All-tail}
 use Rattle.std.proofs.Math.Nat.{one-dvd}
 use Rattle.weighing.specs.Scaled.{IsNum, den_of}
-use Rattle.run_rows.specs.Runs.{IsRun, flow_of, no_flow, state_count}
+use Rattle.run_rows.specs.Runs.{IsRun, flow_of, no_flow}
 use Rattle.run_rows.specs.declared.rows.Run.{Run}
 use Rattle.path_server.specs.Limits.{IsSetting}
 use Rattle.path_server.specs.Shapes.{shape_of}
@@ -24,7 +24,7 @@ use Rattle.ctrl_meaning.specs.Limits.{CanSend, CanStep, CanSum, FitsBoth, HasSha
 use Rattle.ctrl_meaning.specs.Readings.{IsReading, reading, states_at}
 use Rattle.ctrl_meaning.specs.Steps.{sending, set_of, stepping}
 use Rattle.ctrl_meaning.specs.declared.readings.Reading.{Reading}
-use Rattle.ctrl_meaning.proofs.Scales.{some_den}
+use Rattle.claim_values.proofs.Scales.{some_den}
 use Rattle.ctrl_meaning.proofs.Values.{AreScaled, is_scale, scale_divides}
 
 -- an expression's terms can be read, and their denominators divide d

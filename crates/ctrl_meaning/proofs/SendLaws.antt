@@ -18,8 +18,9 @@ use Rattle.ctrl_meaning.specs.Meaning.{allowed, greater, lesser, value}
 use Rattle.ctrl_meaning.specs.Sends.{growth_terms, rate_terms, send_claim, window_terms}
 use Rattle.ctrl_meaning.specs.declared.readings.Reading.{Reading}
 use Rattle.ctrl_meaning.proofs.Readiness.{IsReady, one_divides}
-use Rattle.ctrl_meaning.proofs.TestLaws.{both_mean, either_means, factor_of, over_value}
-use Rattle.ctrl_meaning.proofs.Values.{stands_means}
+use Rattle.ctrl_meaning.proofs.TestLaws.{factor_of, over_value}
+use Rattle.claim_values.proofs.ClaimLists.{both_mean, either_means}
+use Rattle.claim_values.proofs.ValueLaws.{stands_means}
 
 pub record IsGreater (x y m : ℤ) : Type 0 where
   pub left : x ≤ℤ m

@@ -12,13 +12,12 @@ use Rattle.path_server.proofs.RuleLaws.{Means}
 use Rattle.path_server.specs.Limits.{IsSetting}
 use Rattle.path_server.specs.declared.settings.Setting.{Setting}
 use Rattle.ctrl_types.specs.Limits.{IsController, rule_of}
-use Rattle.ctrl_types.specs.Tests.{always, test_of}
+use Rattle.ctrl_types.specs.Tests.{test_of}
 use Rattle.ctrl_types.specs.declared.controllers.Controller.{Controller}
 use Rattle.ctrl_meaning.specs.Guards.{test_claim}
 use Rattle.ctrl_meaning.specs.Limits.{FitsBoth, IsControlled}
 use Rattle.ctrl_meaning.specs.Meaning.{Fires, GuardHolds, IsFirstDiffering, IsOtherArrival, IsStep, IsStuckInSend, IsStuckInStep, IsTrueAt, NothingPasses, NothingPassesInSend, NothingPassesInStep, SendSticks, Sends, StateAgrees, Steps, den_of_all}
-use Rattle.ctrl_meaning.specs.Sends.{send_claim}
-use Rattle.ctrl_meaning.specs.Steps.{after_guards, after_rule, differing, fired, firing, guard_claim, guard_outcome, sending, sent, sent_claim, set_claim, set_of, set_outcome, state_claim, step, stepping}
+use Rattle.ctrl_meaning.specs.Steps.{after_guards, after_rule, differing, fired, firing, guard_claim, guard_outcome, sending, sent, sent_claim, set_claim, set_of, state_claim, step, stepping}
 use Rattle.ctrl_meaning.specs.declared.readings.Reading.{Reading}
 use Rattle.ctrl_meaning.specs.declared.step.StepHolds.{StepHolds}
 use Rattle.ctrl_meaning.specs.declared.step.StepHolds.TheVariants.{Yes, State, Arrival, StepWide, SendWide}

@@ -1,6 +1,6 @@
 -- What is claimed of guards, states and arrivals, and what it means.
 use Rattle.claims.specs.Subjects.{in_run}
-use Rattle.std.proofs.Common.{◌≡◌, ℕ, zero, suc, ◌*◌, ◌-◌, ◌/◌, ◌<◌, ℤ, pos, negsuc, neg_ℤ, ◌+ℤ◌, ◌-ℤ◌, ◌*ℤ◌, ◌≤ℤ◌, ◌<ℤ◌, ◌⊎◌, inl, inr, Option, Some, None, ◌++◌, sym, ◌∙◌, ap, subst, arith}
+use Rattle.std.proofs.Common.{◌≡◌, ℕ, zero, suc, ◌*◌, ◌-◌, ◌/◌, ◌<◌, ℤ, pos, negsuc, neg_ℤ, ◌+ℤ◌, ◌-ℤ◌, ◌*ℤ◌, ◌≤ℤ◌, ◌<ℤ◌, Option, Some, None, ◌++◌, sym, ◌∙◌, ap, subst, arith}
 use Rattle.std.specs.Int.{◌∣◌}
 use Rattle.std.proofs.lemmas.Int.{ints}
 use Rattle.std.proofs.Math.Nat.{div-mul_cancel}
@@ -13,17 +13,20 @@ use Rattle.run_rows.specs.Runs.{arrived, lost, served, state_of}
 use Rattle.run_rows.specs.declared.rows.Run.{Run}
 use Rattle.path_server.proofs.RuleLaws.{Means}
 use Rattle.path_server.proofs.Totals.{total-append}
+use Rattle.claim_values.specs.Values.{Compares}
+use Rattle.claim_values.proofs.ClaimLists.{both_mean, either_means}
+use Rattle.claim_values.proofs.ValueLaws.{stands_means}
 use Rattle.ctrl_types.specs.Limits.{OptionalLin}
 use Rattle.ctrl_types.specs.Tests.{EachExpr, Test, end_of_all, all_of, always, leaf, compares, never, end_of_any, any_of, opposite, delayed}
 use Rattle.ctrl_types.specs.declared.expressions.Lin.{Lin}
 use Rattle.ctrl_meaning.specs.Expressions.{comparison_claim, lin_terms, scale_of_two, scale_with}
 use Rattle.ctrl_meaning.specs.Guards.{test_claim}
-use Rattle.ctrl_meaning.specs.Meaning.{Compares, HasValue, IsTrueAt, value}
+use Rattle.ctrl_meaning.specs.Meaning.{HasValue, IsTrueAt, value}
 use Rattle.ctrl_meaning.specs.Readings.{states_at}
 use Rattle.ctrl_meaning.specs.Steps.{set_claim}
 use Rattle.ctrl_meaning.specs.declared.readings.Reading.{Reading}
 use Rattle.ctrl_meaning.proofs.Readiness.{IsReady, one_divides, two_divide}
-use Rattle.ctrl_meaning.proofs.Values.{is_scale, left_value, right_value, scaled_more, stands_means}
+use Rattle.ctrl_meaning.proofs.Values.{is_scale, left_value, right_value, scaled_more}
 
 -- by what a scale is multiplied to give the common denominator
 pub record IsFactor (d m k : ℕ) : Type 0 where
@@ -73,15 +76,6 @@ comparison_means r at d left rel right some one two =
 
 delay_stands : (a l s : ℤ) → Means (pos 0 ≤ℤ (pos 1 *ℤ a +ℤ (negsuc 0 *ℤ l +ℤ (negsuc 0 *ℤ s +ℤ pos 0)))) (s ≤ℤ (a -ℤ l))
 delay_stands a l s = (λ h. omega (arith, ints), λ h. omega (arith, ints))
-
-pub both_mean : (P Q R S : Type 0) → Means P Q → Means R S → Means (P × R) (Q × S)
-both_mean P Q R S one two = (λ h. (one.0 h.0, two.0 h.1), λ h. (one.1 h.0, two.1 h.1))
-
-pub either_means : (P Q R S : Type 0) → Means P Q → Means R S → Means (P ⊎ R) (Q ⊎ S)
-either_means P Q R S one two = (
-  λ h. elim h [ inl p ↦ inl (one.0 p) | inr r ↦ inr (two.0 r) ],
-  λ h. elim h [ inl q ↦ inl (one.1 q) | inr s ↦ inr (two.1 s) ],
-)
 
 -- a condition's claim holds exactly where the condition is true
 pub test_means : (r : Run) (at : Reading) (d : ℕ) (t : Test) → 0 < d → EachExpr (IsReady r at d) t

@@ -1,30 +1,26 @@
 -- The weighed sums, multiplied up to the common denominator, are the values.
 use Rattle.claims.specs.Subjects.{in_run}
-use Rattle.std.proofs.Common.{◌≡◌, ℕ, ◌*◌, ◌/◌, ◌<◌, ◌≤◌, ℤ, pos, ◌+ℤ◌, ◌-ℤ◌, ◌*ℤ◌, ◌<ℤ◌, neg_ℤ, List, [], ◌∷◌, sym, ◌∙◌, ap, arith}
+use Rattle.std.proofs.Common.{◌≡◌, ℕ, ◌*◌, ◌<◌, ◌≤◌, ℤ, pos, ◌+ℤ◌, ◌-ℤ◌, ◌*ℤ◌, neg_ℤ, List, [], ◌∷◌, sym, ◌∙◌, ap, arith}
 use Rattle.std.specs.Int.{◌∣◌}
 use Rattle.std.specs.Prelude.{All}
 use Rattle.std.proofs.lemmas.Int.{ints}
 use Rattle.std.proofs.lemmas.Nat.Gcd.{dvd_trans, dvd_refl}
 use Rattle.std.proofs.lemmas.List.Elements.{All-head, All-tail}
-use Rattle.std.proofs.Math.IntN.{*ℤ_comm}
-use Rattle.std.proofs.Math.Nat.{div-mul_cancel, mul-div_cancel}
-use Rattle.whole.proofs.Integers.{*ℤ-+ℤ, *ℤ_assoc, *ℤ-neg_ℤ, neg_ℤ-*ℤ, *ℤ-≤ℤ, *ℤ-<ℤ, ≤ℤ_of_*ℤ, <ℤ_of_*ℤ, *ℤ_cancel}
+use Rattle.whole.proofs.Integers.{*ℤ-+ℤ, *ℤ_assoc, *ℤ-neg_ℤ, neg_ℤ-*ℤ}
 use Rattle.weighing.specs.Claim.{total}
 use Rattle.weighing.specs.Scaled.{common, den_of, scaled}
-use Rattle.weighing.specs.Weighed.{Stands}
-use Rattle.weighing.specs.declared.scales.Num.{Num}
 use Rattle.weighing.specs.declared.scales.Side.TheVariants.{Left, Right}
-use Rattle.weighing.specs.declared.weighings.Rel5.{Rel5}
-use Rattle.weighing.specs.declared.weighings.Rel5.TheVariants.{AtMost, Below, AtLeast, Above, Equal}
 use Rattle.run_rows.specs.declared.rows.Run.{Run}
 use Rattle.path_server.proofs.Totals.{total-append}
+use Rattle.claim_values.specs.Values.{number}
+use Rattle.claim_values.proofs.Scales.{is_common, some_den}
+use Rattle.claim_values.proofs.ValueLaws.{number_scaled}
 use Rattle.ctrl_types.specs.declared.expressions.LinTerm.{LinTerm}
 use Rattle.ctrl_types.specs.declared.expressions.Source.{Source}
 use Rattle.ctrl_types.specs.declared.expressions.Source.TheVariants.{One, State, Acked, Lost}
 use Rattle.ctrl_meaning.specs.Expressions.{IsTerm, lin_terms, scale_with, source_terms, term_terms}
-use Rattle.ctrl_meaning.specs.Meaning.{Compares, amount, number, value}
+use Rattle.ctrl_meaning.specs.Meaning.{amount, value}
 use Rattle.ctrl_meaning.specs.declared.readings.Reading.{Reading}
-use Rattle.ctrl_meaning.proofs.Scales.{is_common, some_den}
 
 difference : (k x y : ℤ) → k *ℤ x +ℤ (neg_ℤ k *ℤ y +ℤ pos 0) ≡ k *ℤ (x -ℤ y)
 difference k x y =
@@ -60,19 +56,6 @@ right_total r at m (t ∷ ts) =
 abbrev pub AreScaled : ℕ → List LinTerm → Type 0
 AreScaled m [] = Unit {0}
 AreScaled m (t ∷ ts) = (0 < den_of t.coef) × (den_of t.coef ∣ m) × AreScaled m ts
-
-part_scaled : (k m d : ℕ) → 0 < d → d ∣ m → k * (m / d) ≡ (k * m) / d
-part_scaled k m d some divides =
-    let back : m / d * d ≡ m = div-mul_cancel d divides in
-    let whole : k * (m / d) * d ≡ k * m = omega (arith, ap (λ n. k * n) back) in
-    sym (mul-div_cancel (k * (m / d)) some) ∙ ap (λ n. n / d) whole
-
-pub number_scaled : (k m : ℕ) (n : Num) → 0 < den_of n → den_of n ∣ m → pos k *ℤ number m n ≡ number (k * m) n
-number_scaled k m n some divides =
-    sym (*ℤ_assoc (pos k) n.num (pos (m / den_of n)))
-    ∙ ap (λ z. z *ℤ pos (m / den_of n)) (*ℤ_comm (pos k) n.num)
-    ∙ *ℤ_assoc n.num (pos k) (pos (m / den_of n))
-    ∙ ap (λ q. n.num *ℤ pos q) (part_scaled k m (den_of n) some divides)
 
 -- the left side's terms, multiplied up
 pub left_value : (r : Run) (at : Reading) (k m : ℕ) (ts : List LinTerm) → AreScaled m ts
@@ -124,32 +107,3 @@ scale_divides n s d (t ∷ ts) from each start scaled =
 pub scaled_more : (m d : ℕ) (ts : List LinTerm) → m ∣ d → AreScaled m ts → AreScaled d ts
 scaled_more m d [] more each = tt
 scaled_more m d (t ∷ ts) more each = (each.0, dvd_trans (den_of t.coef) each.1 more, scaled_more m d ts more each.2)
-
--- the relation of a sum to zero is that of two values whose difference is a multiple of it
-pub stands_means : (rel : Rel5) (k t x y : ℤ) → pos 0 <ℤ k → k *ℤ t ≡ x -ℤ y
-    → (Stands rel t → Compares rel x y) × (Compares rel x y → Stands rel t)
-stands_means AtMost k t x y some is =
-    let none : k *ℤ pos 0 ≡ pos 0 = omega (arith, ints) in (
-      λ h. let scaled = *ℤ-≤ℤ k t (pos 0) (omega (arith, ints)) h in omega (arith, ints),
-      λ h. ≤ℤ_of_*ℤ k t (pos 0) some (omega (arith, ints)),
-    )
-stands_means Below k t x y some is =
-    let none : k *ℤ pos 0 ≡ pos 0 = omega (arith, ints) in (
-      λ h. let scaled = *ℤ-<ℤ k t (pos 0) some h in omega (arith, ints),
-      λ h. <ℤ_of_*ℤ k t (pos 0) some (omega (arith, ints)),
-    )
-stands_means AtLeast k t x y some is =
-    let none : k *ℤ pos 0 ≡ pos 0 = omega (arith, ints) in (
-      λ h. let scaled = *ℤ-≤ℤ k (pos 0) t (omega (arith, ints)) h in omega (arith, ints),
-      λ h. ≤ℤ_of_*ℤ k (pos 0) t some (omega (arith, ints)),
-    )
-stands_means Above k t x y some is =
-    let none : k *ℤ pos 0 ≡ pos 0 = omega (arith, ints) in (
-      λ h. let scaled = *ℤ-<ℤ k (pos 0) t some h in omega (arith, ints),
-      λ h. <ℤ_of_*ℤ k (pos 0) t some (omega (arith, ints)),
-    )
-stands_means Equal k t x y some is =
-    let none : k *ℤ pos 0 ≡ pos 0 = omega (arith, ints) in (
-      λ h. let scaled : k *ℤ t ≡ pos 0 = ap (λ z. k *ℤ z) h ∙ none in omega (arith, ints),
-      λ h. *ℤ_cancel k t (pos 0) some (is ∙ (let same : x -ℤ y ≡ k *ℤ pos 0 = omega (arith, ints) in same)),
-    )

@@ -1,6 +1,6 @@
 -- What is claimed of the flows on a row of a run, in the order in which the formulas of an unrolled problem stand: on the
 -- opening row the ranges of the states, on a controlled row each flow's rules, and then what each flow sends.
-use Rattle.std.specs.Prelude.{◌≡◌, ℕ, ◌≤◌, ◌==◌, nat_lt, ℤ, Bool, true, false, if◌then◌else◌, List, [], ◌∷◌, ◌++◌, map, flat_map, length}
+use Rattle.std.specs.Prelude.{◌≡◌, ℕ, ◌≤◌, ◌==◌, nat_lt, ℤ, Bool, false, if◌then◌else◌, List, [], ◌∷◌, ◌++◌, map, flat_map, length}
 use Rattle.condition_tree.specs.Trees.{conjunction, disjunction, opposite}
 use Rattle.claims.specs.Subjects.{Subject, constant, each_flow, of_state}
 use Rattle.weighing.specs.Claim.{Claims}

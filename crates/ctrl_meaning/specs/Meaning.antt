@@ -1,14 +1,11 @@
 -- What a controller's words mean, over all whole numbers.
 -- Values stand in units of 1 / (over * den), in which each is whole; den is a common multiple of the controller's denominators.
-use Rattle.std.specs.Prelude.{◌≡◌, ℕ, ◌-◌, ◌/◌, ◌<◌, ℤ, pos, ◌+ℤ◌, ◌-ℤ◌, ◌*ℤ◌, ◌≤ℤ◌, ◌<ℤ◌, unsigned_abs, int_le, ◌⊎◌, if◌then◌else◌, Option, Some, None, List, [], ◌∷◌, length}
+use Rattle.std.specs.Prelude.{◌≡◌, ℕ, ◌-◌, ◌<◌, ℤ, pos, ◌+ℤ◌, ◌-ℤ◌, ◌*ℤ◌, ◌≤ℤ◌, unsigned_abs, int_le, ◌⊎◌, if◌then◌else◌, Option, Some, None, List, [], ◌∷◌, length}
 use Rattle.whole.specs.declared.answers.Stuck.{Stuck}
 use Rattle.weighing.specs.Asked.{IsFirstStuck, NonePasses}
 use Rattle.weighing.specs.Passing.{IsFirstPassing, NothingPasses as NothingPassesIn}
-use Rattle.weighing.specs.Scaled.{den_of}
-use Rattle.weighing.specs.declared.scales.Num.{Num}
-use Rattle.weighing.specs.declared.weighings.Rel5.{Rel5}
-use Rattle.weighing.specs.declared.weighings.Rel5.TheVariants.{AtMost, Below, AtLeast, Above, Equal}
 use Rattle.claims.specs.Subjects.{worth}
+use Rattle.claim_values.specs.Values.{Compares, number}
 use Rattle.run_rows.specs.Runs.{arrived, lost, served, state_of}
 use Rattle.run_rows.specs.declared.rows.Run.{Run}
 use Rattle.path_server.specs.declared.settings.Setting.{Setting}
@@ -33,21 +30,10 @@ amount r at (StateSource j) = state_of r at.states at.flow j
 amount r at Acked = served r at.heard at.flow -ℤ served r (at.heard - 1) at.flow
 amount r at Lost = worth r (losses_heard at) -ℤ worth r (losses_heard_before at)
 
--- a written number times den
-abbrev pub number : ℕ → Num → ℤ
-number den n = n.num *ℤ pos (den / den_of n)
-
 -- the value of an expression: the sum of its coefficients times the values that its names have there
 abbrev pub value : Run → Reading → ℕ → List LinTerm → ℤ
 value r at den [] = pos 0
 value r at den (t ∷ terms) = (number den t.coef *ℤ amount r at t.of) +ℤ value r at den terms
-
-abbrev pub Compares : Rel5 → ℤ → ℤ → Type 0
-Compares AtMost x y = x ≤ℤ y
-Compares Below x y = x <ℤ y
-Compares AtLeast x y = y ≤ℤ x
-Compares Above x y = y <ℤ x
-Compares Equal x y = x ≡ y
 
 -- a comparison is true of the values, and a test of delay of what was accepted and what was served
 abbrev pub LeafHolds : Run → Reading → ℕ → Leaf Lin ℕ → Type 0

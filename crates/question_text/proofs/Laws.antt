@@ -16,9 +16,9 @@ use Rattle.weighing.proofs.Claims.{outcome_answers}
 use Rattle.run_rows.specs.declared.rows.Run.{Run}
 use Rattle.path_server.proofs.RuleLaws.{Means}
 use Rattle.path_server.proofs.Totals.{total-append, total-each_flow}
-use Rattle.ctrl_meaning.specs.Meaning.{Compares, number}
-use Rattle.ctrl_meaning.proofs.TestLaws.{both_mean, either_means}
-use Rattle.ctrl_meaning.proofs.Values.{stands_means}
+use Rattle.claim_values.specs.Values.{Compares, number}
+use Rattle.claim_values.proofs.ClaimLists.{both_mean, either_means}
+use Rattle.claim_values.proofs.ValueLaws.{stands_means}
 use Rattle.question_text.specs.Conditions.{Condition, always, never, leaf, compares, opposite, end_of_all, all_of, end_of_any, any_of, condition_of, conjunction}
 use Rattle.question_text.specs.Expressions.{comparison_claim, comparison_terms, condition_claim, lin_terms, scale_of_two, term_terms}
 use Rattle.question_text.specs.Meaning.{IsFirstPassing, IsTrueIn, NothingPasses, Violates, value}

@@ -17,8 +17,8 @@ use Rattle.run_rows.proofs.EntryPlaces.{state_count_after}
 use Rattle.path_server.proofs.RuleLaws.{Means}
 use Rattle.path_server.specs.Shapes.{shape_of}
 use Rattle.path_server.specs.declared.settings.Setting.{Setting}
-use Rattle.ctrl_meaning.proofs.ClaimLists.{both_halves, each_of_map, joined_made, maps_agree, maps_made}
-use Rattle.ctrl_meaning.proofs.MadeShape.{made_shape}
+use Rattle.claim_values.proofs.ClaimLists.{both_halves, each_of_map, joined_made, maps_agree, maps_made}
+use Rattle.claim_values.proofs.MadeShape.{made_shape}
 use Rattle.question_text.specs.Claims.{CanCompare, CanTake, CanUnroll, assumed_claim, question_claims, rows_for}
 use Rattle.question_text.specs.Conditions.{Comparison, Condition, Sides, compares, condition_of}
 use Rattle.question_text.specs.Expressions.{condition_claim}

@@ -7,9 +7,9 @@ use Rattle.std.proofs.Math.Nat.{div-mul_cancel}
 use Rattle.whole.proofs.Integers.{*ℤ-+ℤ, *ℤ_assoc}
 use Rattle.weighing.specs.declared.weighings.Rel5.{Rel5}
 use Rattle.run_rows.specs.declared.rows.Run.{Run}
-use Rattle.ctrl_meaning.specs.Meaning.{Compares, number}
-use Rattle.ctrl_meaning.proofs.Scales.{some_den}
-use Rattle.ctrl_meaning.proofs.Values.{number_scaled, stands_means}
+use Rattle.claim_values.specs.Values.{Compares, number}
+use Rattle.claim_values.proofs.Scales.{some_den}
+use Rattle.claim_values.proofs.ValueLaws.{number_scaled, stands_means}
 use Rattle.question_text.specs.Conditions.{compares}
 use Rattle.question_text.specs.Expressions.{AreCleared, Divides, HasNum, scale_of_two}
 use Rattle.question_text.specs.Meaning.{ComparisonHolds, value}

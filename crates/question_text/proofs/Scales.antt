@@ -1,18 +1,17 @@
 -- Scales grow from denominator to denominator, and divide each common multiple of them.
-use Rattle.std.proofs.Common.{◌≡◌, ℕ, ◌+◌, ◌<◌, ◌≤◌, List, [], ◌∷◌, get_or, length, drop, map, sym, ◌∙◌, ap, subst, arith}
+use Rattle.std.proofs.Common.{◌≡◌, ℕ, ◌<◌, ◌≤◌, List, [], ◌∷◌, get_or, length, drop, map, subst, arith}
 use Rattle.std.specs.Prelude.{All}
 use Rattle.std.specs.Int.{◌∣◌}
 use Rattle.std.proofs.lemmas.Nat.Gcd.{dvd_trans}
 use Rattle.std.proofs.Math.Nat.{one-dvd}
-use Rattle.std.proofs.lemmas.List.{drop_more}
-use Rattle.std.proofs.lemmas.List.Elements.{All-nil, All-cons, All-head, All-tail, All-get_or, All-drop, All-map}
+use Rattle.std.proofs.lemmas.List.Elements.{All-nil, All-cons, All-head, All-tail, All-map}
 use Rattle.std.proofs.lemmas.List.Folds.{fold-map}
 use Rattle.weighing.specs.Scaled.{IsNum, common, den_of}
 use Rattle.weighing.specs.declared.scales.Num.{Num}
 use Rattle.ctrl_types.specs.Denominators.{IsLeastOver}
 use Rattle.ctrl_types.proofs.DenominatorLaws.{least_over}
 use Rattle.run_rows.specs.declared.rows.Run.{Run}
-use Rattle.ctrl_meaning.proofs.Scales.{is_common}
+use Rattle.claim_values.proofs.Scales as scales
 use Rattle.question_text.specs.declared.names.Rows.{Rows}
 use Rattle.question_text.specs.declared.conditions.QTerm.{QTerm}
 use Rattle.question_text.specs.declared.conditions.QLin.{QLin}
@@ -21,30 +20,15 @@ use Rattle.question_text.specs.Expressions.{AreCleared, CanTake, HasNum, IsLeast
 pub numbers_of : (r : Run) (at : Rows) (ts : List QTerm) → All (CanTake r at) ts → All HasNum ts
 numbers_of r at ts each = λ k d inside. (each k d inside).coef_in
 
-pub scale_grows : (s : ℕ) (ts : List QTerm) → 1 ≤ s → All HasNum ts → s ≤ scale_with s ts
-scale_grows s [] from each = omega arith
-scale_grows s (t ∷ ts) from each =
-    let here = is_common s t.coef from (All-head HasNum t ts each) in
-    let rest = scale_grows (common s t.coef) ts here.some (All-tail HasNum t ts each) in
-    omega (arith, here.grown, rest)
+abbrev pub coef_of : QTerm → Num
+coef_of t = t.coef
 
--- one more denominator in the scale
-pub record ScaleStep (s start : ℕ) (ts : List QTerm) (i : ℕ) (t : QTerm) : Type 0 where
-  pub number_in : IsNum t.coef
-  pub least_to : common s t.coef ≤ 1000000
-  pub next : scale_with (common s t.coef) (drop (i + 1) ts) ≡ scale_with start ts
-  pub some : 1 ≤ common s t.coef
+pub scale_grows : (s : ℕ) (ts : List QTerm) → 1 ≤ s → All HasNum ts → s ≤ scale_with s ts
+scale_grows s ts from each = scales.scale_grows coef_of s ts from each
 
 pub scale_step : (s start : ℕ) (ts : List QTerm) (i : ℕ) (d : QTerm) → i < length ts → All HasNum ts → 1 ≤ s
-    → scale_with s (drop i ts) ≡ scale_with start ts → scale_with start ts ≤ 1000000 → ScaleStep s start ts i (get_or ts i d)
-scale_step s start ts i d inside each from so_far small =
-    let t : QTerm = get_or ts i d in
-    let number : IsNum t.coef = All-get_or HasNum ts i d inside each in
-    let here = is_common s t.coef from number in
-    let next : scale_with (common s t.coef) (drop (i + 1) ts) ≡ scale_with start ts =
-    ap (scale_with s) (sym (drop_more ts i d inside)) ∙ so_far in
-    let rest = scale_grows (common s t.coef) (drop (i + 1) ts) here.some (All-drop HasNum (i + 1) ts each) in
-    record { number_in = number; least_to = omega (arith, rest, next, small); next = next; some = here.some }
+    → scale_with s (drop i ts) ≡ scale_with start ts → scale_with start ts ≤ 1000000 → scales.ScaleStep coef_of s start ts i (get_or ts i d)
+scale_step s start ts i d inside each from so_far small = scales.scale_step coef_of s start ts i d inside each from so_far small
 
 -- a scale is the least multiple of what it began with and of each denominator
 record IsScale (s : ℕ) (ts : List QTerm) : Type 0 where
@@ -52,9 +36,6 @@ record IsScale (s : ℕ) (ts : List QTerm) : Type 0 where
   of_start : s ∣ scale_with s ts
   of_terms : AreCleared (scale_with s ts) ts
   least : (m : ℕ) → s ∣ m → AreCleared m ts → scale_with s ts ∣ m
-
-abbrev coef_of : QTerm → Num
-coef_of t = t.coef
 
 each_term : (P : Num → Type 0) (ts : List QTerm) → All P (map coef_of ts) → All (λ t. P t.coef) ts
 each_term P [] each = All-nil (λ t. P (coef_of t))

@@ -14,7 +14,6 @@ use Rattle.path_server.specs.declared.settings.Setting.{Setting}
 use Rattle.ctrl_types.specs.Resolving.{SeenController, controller_seen}
 use Rattle.ctrl_types.specs.declared.controllers.Controller.{Controller}
 use Rattle.ctrl_types.specs.declared.controllers.State.{State}
-use Rattle.ctrl_meaning.proofs.SeenLaws.{unruled}
 use Rattle.question_syntax.specs.Sections.{Sections, Wanted}
 use Rattle.question_text.specs.Conditions.{conjunction}
 use Rattle.question_text.specs.Expressions.{condition_claim}
@@ -60,6 +59,10 @@ module _ (c d : Controller) (states_are : c.states ≡ d.states) (judged_are : j
   refused_by bytes r (inl refused) = inl refused
   refused_by bytes r (inr breaks) = inr (breaks_same bytes r breaks)
 
+-- what the statements of a question are judged by, of a controller as it is seen
+abbrev judged_by : SeenController → Judge
+judged_by x = judged (record { states = x.states; rules = []; window = x.window; rate = x.rate; delay_max = x.delay_max; den = x.den })
+
 -- controllers that are seen the same
 module _ (c d : Controller) (same : controller_seen c ≡ controller_seen d) where
   pub states_same : c.states ≡ d.states
@@ -67,7 +70,7 @@ module _ (c d : Controller) (same : controller_seen c ≡ controller_seen d) whe
 
   judged_same : judged c ≡ judged d
   unfolding judged passes_limit
-  judged_same = ap (λ (x : SeenController). judged (unruled x)) same
+  judged_same = ap judged_by same
 
   pub text_same : (bytes : List ℕ) (q : SeenQuestion) → IsTextOf c bytes q → IsTextOf d bytes q
   text_same = text_by c d states_same judged_same
@@ -75,8 +78,8 @@ module _ (c d : Controller) (same : controller_seen c ≡ controller_seen d) whe
   pub refused_same : (bytes : List ℕ) (r : Refusal) → IsRefused c bytes r → IsRefused d bytes r
   refused_same = refused_by c d states_same judged_same
 
--- a controller without its rules
-pub judged_unruled : (c : Controller) → judged c ≡ judged (unruled (controller_seen c))
+-- without its rules a controller judges the same
+pub judged_unruled : (c : Controller) → judged c ≡ judged (record { states = c.states; rules = []; window = c.window; rate = c.rate; delay_max = c.delay_max; den = c.den })
 unfolding judged passes_limit
 judged_unruled c = refl
 

@@ -7,7 +7,7 @@ use Rattle.claims.specs.Subjects.{in_run}
 use Rattle.whole.specs.declared.answers.Stuck.{Stuck}
 use Rattle.weighing.specs.Passing.{IsFirstPassing as IsFirstPassingIn, NothingPasses as NothingPassesIn}
 use Rattle.run_rows.specs.declared.rows.Run.{Run}
-use Rattle.ctrl_meaning.specs.Meaning.{Compares, number}
+use Rattle.claim_values.specs.Values.{Compares, number}
 use Rattle.condition_tree.specs.Trees.{Truth}
 use Rattle.question_text.specs.Conditions.{Condition, Comparison, compares, condition_of}
 use Rattle.question_text.specs.Expressions.{scale_of_two}

@@ -2,7 +2,7 @@
 ghost use Rattle.std.specs.Prelude.{◌≤◌, ◌↔◌, ℕ, All};
 ghost use Rattle.weighing.specs.declared.weighings.Rel5.{Rel5};
 ghost use Rattle.run_rows.specs.declared.rows.Run.{Run};
-ghost use Rattle.ctrl_meaning.specs.Meaning.{Compares};
+ghost use Rattle.claim_values.specs.Values.{Compares};
 ghost use Rattle.question_text.specs.Conditions.{compares};
 ghost use Rattle.question_text.specs.Expressions.{AreCleared, HasNum, IsLeastScale, scale_of_two};
 ghost use Rattle.question_text.specs.Meaning.{ComparisonHolds, value};

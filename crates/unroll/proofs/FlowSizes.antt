@@ -38,7 +38,7 @@ use Rattle.ctrl_meaning.specs.Sends.{growth_terms, rate_terms, send_claim, windo
 use Rattle.ctrl_meaning.specs.Steps.{sending, set_claim, set_of, stepping}
 use Rattle.ctrl_meaning.specs.declared.readings.Reading.{Reading}
 use Rattle.path_server.proofs.AdmissionLaws.{all_below, all_flat_map}
-use Rattle.ctrl_meaning.proofs.ClaimLists.{conjunction_leaves, flows_of_each}
+use Rattle.claim_values.proofs.ClaimLists.{conjunction_leaves, flows_of_each}
 use Rattle.ctrl_meaning.proofs.FlowColumns.{flows_over}
 use Rattle.clause_form.specs.Formulas.{CanTake, EachComparison}
 use Rattle.unroll.specs.ClaimFormulas.{claim_formulas}

@@ -4,7 +4,7 @@ use Rattle.weighing.specs.Weighed.{weighed_from}
 use Rattle.ctrl_types.specs.declared.expressions.LinTerm.{LinTerm}
 use Rattle.ctrl_types.specs.declared.expressions.Source.TheVariants.{One}
 use Rattle.ctrl_meaning.specs.Expressions.{lin_terms, source_terms, term_terms}
-use Rattle.ctrl_meaning.proofs.Sums.{factor_is, piece_more}
+use Rattle.claim_values.proofs.Sums.{factor_is, piece_more}
 use Rattle.ctrl_meaning.proofs.expressions.plus_lin.Goals as goal
 
 abbrev none : LinTerm

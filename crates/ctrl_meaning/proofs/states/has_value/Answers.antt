@@ -12,7 +12,7 @@ use Rattle.ctrl_types.specs.declared.expressions.Lin.{Lin}
 use Rattle.ctrl_meaning.specs.Expressions.{lin_terms, scale_with}
 use Rattle.ctrl_meaning.specs.Steps.{set_claim}
 use Rattle.ctrl_meaning.specs.declared.readings.Reading.{Reading}
-use Rattle.ctrl_meaning.proofs.Sums.{entry_is, factor_is, given}
+use Rattle.claim_values.proofs.Sums.{entry_is, factor_is, given}
 use Rattle.ctrl_meaning.proofs.states.has_value.Goals as goal
 
 -- the state's term, and then those of the expression

@@ -2,7 +2,7 @@ use Rattle.run_rows.specs.Runs.{flow_count}
 use Rattle.claims.specs.Subjects.{in_run}
 use Rattle.std.proofs.Common.{◌∙◌, ap, pos, get_or}
 use Rattle.weighing.specs.Weighed.{weighed_from}
-use Rattle.ctrl_meaning.proofs.Sums.{factor_is, piece_more}
+use Rattle.claim_values.proofs.Sums.{factor_is, piece_more}
 use Rattle.question_text.specs.declared.conditions.QTerm.{QTerm}
 use Rattle.question_text.specs.declared.conditions.Of.TheVariants.{One}
 use Rattle.question_text.specs.Expressions.{lin_terms, term_terms}

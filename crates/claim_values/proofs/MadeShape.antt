@@ -1,18 +1,16 @@
 -- The run of a shape's columns has the shape.
-use Rattle.std.proofs.Common.{◌≡◌, ℕ, ◌+◌, ◌<◌, ◌≤◌, ℤ, pos, ◌≤ℤ◌, List, get_or, length, map, sym, ◌∙◌, subst, arith}
-use Rattle.std.specs.Prelude.{All}
+use Rattle.std.proofs.Common.{◌≡◌, ℕ, ℤ, pos, ◌≤ℤ◌, length, sym, ◌∙◌, subst, arith}
 use Rattle.std.specs.List.{range_with_len}
 use Rattle.std.proofs.lemmas.List.{length-map}
 use Rattle.std.proofs.lemmas.List.FromFn.{length-range_with_len}
 use Rattle.run_rows.specs.Columns.{rows_of}
-use Rattle.run_rows.specs.Runs.{RowShaped, Shaped, row_of, state_count}
+use Rattle.run_rows.specs.Runs.{RowShaped, Shaped, state_count}
 use Rattle.run_rows.specs.declared.rows.FlowRow.{FlowRow}
-use Rattle.run_rows.specs.declared.rows.Row.{Row}
 use Rattle.run_rows.specs.declared.shapes.Shape.{Shape}
 use Rattle.claims.specs.Columns.{entry_value, flow_made, row_made, run_of}
 use Rattle.claims.proofs.Made.{row_is}
 use Rattle.run_rows.specs.declared.columns.Entry.TheVariants.{X}
-use Rattle.ctrl_meaning.proofs.ClaimLists.{map_all}
+use Rattle.claim_values.proofs.ClaimLists.{map_all}
 
 row_shaped : (s : Shape) (value : ℕ → ℤ) (i : ℕ) → RowShaped s.flows (state_count s i) (row_made s value i)
 row_shaped s value i = record {

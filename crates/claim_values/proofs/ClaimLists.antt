@@ -1,5 +1,5 @@
--- Lists of claims: what holds of each of them, and their conjunctions.
-use Rattle.std.proofs.Common.{◌≡◌, ℕ, zero, suc, ◌+◌, ◌<◌, ◌≤◌, ◌⊎◌, inl, inr, List, [], ◌∷◌, ◌++◌, map, refl, sym, ◌∙◌, ap, subst, arith}
+-- Claims together: what two of them say, what holds of each of a list, and conjunctions.
+use Rattle.std.proofs.Common.{◌≡◌, ℕ, zero, suc, ◌≤◌, ◌⊎◌, inl, inr, List, [], ◌∷◌, ◌++◌, map, refl, ◌∙◌, ap, subst, arith}
 use Rattle.std.specs.Prelude.{All}
 use Rattle.std.proofs.lemmas.Bool.{cases_lt}
 use Rattle.std.proofs.lemmas.List.{map-append}
@@ -7,6 +7,17 @@ use Rattle.std.proofs.lemmas.List.Elements.{All-append, All-cons, All-head, All-
 use Rattle.condition_tree.specs.Trees.{EachLeaf, Tree, Truth, all_of, conjunction, with_leaves}
 use Rattle.claims.specs.Subjects.{each_flow}
 use Rattle.path_server.proofs.RuleLaws.{Means}
+
+-- ---- two claims
+
+pub both_mean : (P Q R S : Type 0) → Means P Q → Means R S → Means (P × R) (Q × S)
+both_mean P Q R S one two = (λ h. (one.0 h.0, two.0 h.1), λ h. (one.1 h.0, two.1 h.1))
+
+pub either_means : (P Q R S : Type 0) → Means P Q → Means R S → Means (P ⊎ R) (Q ⊎ S)
+either_means P Q R S one two = (
+  λ h. elim h [ inl p ↦ inl (one.0 p) | inr r ↦ inr (two.0 r) ],
+  λ h. elim h [ inl q ↦ inl (one.1 q) | inr s ↦ inr (two.1 s) ],
+)
 
 -- ---- each of a list
 
