@@ -14,12 +14,12 @@ pub record ArePlain (plain : Plain) (read : List (List ℕ)) : Type 0 where
 
 pub runs_in_json : (old new : Told) (plain : Plain) (read words : List (List ℕ)) (before after : Got) (status : ℕ) → read ≡ words → ArePlain plain read
     → plain.json ≡ true → InJson old new (bytes_of plain) before after status → Runs old new (asked_of commands words) before after status
-runs_in_json old new plain read words before after status same are yes carried =
+runs_in_json old new plain read words before after status same are is_json carried =
     subst (λ (ws : List (List ℕ)). Runs old new (asked_of commands ws) before after status) same
-    (in_json status (sym are.json ∙ yes) (subst (λ (ws : List (List ℕ)). InJson old new ws before after status) are.words carried))
+    (in_json status (sym are.json ∙ is_json) (subst (λ (ws : List (List ℕ)). InJson old new ws before after status) are.words carried))
 
 pub runs_as_it_is : (old new : Told) (plain : Plain) (read words : List (List ℕ)) (before after : Got) (status : ℕ) → read ≡ words → ArePlain plain read
     → plain.json ≡ false → Carries old new (bytes_of plain) before after status → Runs old new (asked_of commands words) before after status
-runs_as_it_is old new plain read words before after status same are no carried =
+runs_as_it_is old new plain read words before after status same are is_not carried =
     subst (λ (ws : List (List ℕ)). Runs old new (asked_of commands ws) before after status) same
-    (as_it_is status (sym are.json ∙ no) (subst (λ (ws : List (List ℕ)). Carries old new ws before after status) are.words carried))
+    (as_it_is status (sym are.json ∙ is_not) (subst (λ (ws : List (List ℕ)). Carries old new ws before after status) are.words carried))

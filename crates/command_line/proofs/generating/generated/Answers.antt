@@ -5,7 +5,7 @@ use Rattle.command_line.proofs.generating.generated.Goals as goal
 
 pub returns : goal.returns
 returns c =
-    let before = c.in_ok-problem.folder in
+    let before = c.in_ok-problem.problem.folder in
     let after = c.run-status.new.folder in
     generates (seed_seen c.args.seed) (record { content = held before; faults = λ _. faults before; excesses = λ _. excesses before })
     (record { content = held after; faults = λ _. faults after; excesses = λ _. excesses after }) _ c.new-kept.result c.run-status.new.out c.run-status.result _ _ _ _
