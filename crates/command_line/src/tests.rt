@@ -3,9 +3,32 @@ use ccac_ports::{MemFolder, MemSink};
 use std::alloc::Global;
 use std::test::Fail;
 
-/// `fixed` is a controller, `bad` an empty file, and `open` a question about the first.
+/// A window of 2.
+const CONTROLLER: &str = "ccac-controller 1
+state cwnd data init 2 2
+rule otherwise
+window cwnd
+end
+";
+
+/// Without jitter at most 1 is served in a step.
+const QUESTION: &str = "ccac-question 1
+flows 1
+steps 1
+rate 1
+jitter 0
+rtt 1
+buffer none
+budget 100000
+require S@1 - S@0 <= 1
+end
+";
+
+/// `c` is a controller, `q` a question about it, `bad` an empty file, and `fixed` a controller without states.
 fn files(alloc: Global) -> Result<MemFolder, Fail> {
     let mut folder = MemFolder::new(alloc);
+    folder.add("c", CONTROLLER.as_bytes())?;
+    folder.add("q", QUESTION.as_bytes())?;
     folder.add(
         "fixed",
         b"ccac-controller 1\nrule otherwise\nwindow 2\nend\n".as_slice(),
@@ -99,14 +122,60 @@ fn a_line_that_is_cut_short_is_a_prefix(rt: HostRuntime) -> Result<(), Fail> {
 }
 
 #[test]
+fn a_refusal_is_the_same_in_json(rt: HostRuntime) -> Result<(), Fail> {
+    let alloc = rt.alloc();
+    let (status, text) = ended(alloc, "check bad q")?;
+    assert_eq!(rt; status, 3);
+    assert!(rt; text.as_str() == "refused controller G1 line 1\n");
+    let (status, text) = ended(alloc, "check bad q --json")?;
+    assert_eq!(rt; status, 3);
+    assert!(rt; text.as_str() == "{\"status\":3,\"text\":\"refused controller G1 line 1\\n\"}\n");
+    Ok(())
+}
+
+#[test]
+fn a_verdict_is_the_same_line_wherever_the_option_stands(rt: HostRuntime) -> Result<(), Fail> {
+    let alloc = rt.alloc();
+    let (_, first) = ended(alloc, "check --json c q")?;
+    assert!(rt;
+        first
+            .as_str()
+            .starts_with("{\"status\":0,\"text\":\"verified\\nccac-cert ")
+    );
+    for line in ["check c q --json", "check --json -- c q"] {
+        let (status, text) = ended(alloc, line)?;
+        assert_eq!(rt; status, 0, "{line}");
+        assert!(rt; text.as_str() == first.as_str(), "{line}");
+    }
+    for line in ["check c", "check c q r", "check c --json"] {
+        let (status, text) = ended(alloc, line)?;
+        assert_eq!(rt; status, 4, "{line}");
+        assert!(rt; text.as_str() == "usage\n", "{line}");
+    }
+    Ok(())
+}
+
+#[test]
 fn a_generated_problem_is_judged(rt: HostRuntime) -> Result<(), Fail> {
     let alloc = rt.alloc();
     let want = "gen 7 1\ncontroller 205\nquestion 102\nverdict violated\n";
-    for line in ["gen 7 1", "gen -- 7 1"] {
+    for line in ["gen 7 1", "gen 7 1", "gen -- 7 1"] {
         let (status, text) = ended(alloc, line)?;
         assert_eq!(rt; status, 0, "{line}");
         assert!(rt; text.as_str() == want, "{line}");
     }
+    let (status, text) = ended(alloc, "gen 7 1 --json")?;
+    assert_eq!(rt; status, 0);
+    assert!(rt;
+        text.as_str()
+            == "{\"status\":0,\"text\":\"gen 7 1\\ncontroller 205\\nquestion 102\\nverdict violated\\n\"}\n"
+    );
+    Ok(())
+}
+
+#[test]
+fn numbers_out_of_range_are_usage(rt: HostRuntime) -> Result<(), Fail> {
+    let alloc = rt.alloc();
     for line in [
         "gen 7 0",
         "gen 7 33",
