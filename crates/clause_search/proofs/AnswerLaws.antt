@@ -17,11 +17,14 @@ use Rattle.clause_search.specs.declared.course.Phase.{Phase}
 use Rattle.clause_search.specs.declared.course.Phase.TheVariants.{Told, Checked, Cut}
 use Rattle.clause_search.specs.declared.found.Found.{Found}
 use Rattle.clause_search.specs.declared.found.Found.TheVariants as found
-use Rattle.clause_search.specs.Answers.{Finds, IsAssignment, IsClosed, IsTally, starting_at, truth_in}
+use Rattle.clause_search.specs.declared.step.Step.{Step}
+use Rattle.clause_search.specs.declared.found.Until.{Until}
+use Rattle.clause_search.specs.declared.found.Until.TheVariants as until
+use Rattle.clause_search.specs.Answers.{Finds, FindsUntil, IsAssignment, IsCalm, IsStopped, IsClosed, IsTally, starting_at, truth_in}
 use Rattle.clause_search.specs.Courses.{IsInPhase, IsLegal, IsTaught, place}
 use Rattle.clause_search.specs.Lessons.{ReachesLearning}
 use Rattle.clause_search.specs.Opened.{IsOfCourse}
-use Rattle.clause_search.specs.Steps.{Chooses, IfFree, IsComplete, IsDeciding, IsPropagating, IsRefuted}
+use Rattle.clause_search.specs.Steps.{Chooses, IfFree, IsAllowedStop, IsComplete, IsDeciding, IsPaused, IsPropagating, IsRefuted, Steps}
 use Rattle.clause_search.specs.Tables.{NameAll}
 use Rattle.clause_search.proofs.LiteralLaws.{below_has, settled_at, settled_back, settled_front}
 use Rattle.clause_search.proofs.TrailLaws.{get_either, known_below}
@@ -140,6 +143,46 @@ complete R c s course seen n wish ((at, moved), settled, wished) whole = record 
   settled = settled;
   whole = λ atom less. whole atom (subst (λ (a : ℕ). atom < a) (sym at.atoms) less);
 }
+
+-- ---- stops
+
+pub paused : {S : Type 0} (R : Relations S) (c : Clauses) (s : S) (course : Course) (seen : Seen S) (n : Counts) (wish : Option Lit)
+    → IsDeciding R c s course seen n wish → IsPaused R c s course seen n
+paused R c s course seen n wish ((at, moved), settled, wished) = record {
+  at = at;
+  checked = (rested_in R c s course.trail.entries course.lemmas at.last seen course.phase moved settled at.in_phase).0;
+}
+
+pub calm_of : {S : Type 0} (R : Relations S) (c : Clauses) (s : S) (course : Course) (seen : Seen S) (n : Counts)
+    → IsPaused R c s course seen n → IsCalm R seen
+calm_of R c s course seen n is =
+    let phase : IsInPhase R c s course.trail.entries course.lemmas is.at.last seen Checked = subst (λ (p : Phase). IsInPhase R c s course.trail.entries course.lemmas is.at.last seen p) is.checked is.at.in_phase in
+    record { fine = phase.3; paid = phase.0; at_work = is.at.underway.at_work; solution = phase.4; calm = phase.2 }
+
+pub stopped : {S : Type 0} (R : Relations S) (c : Clauses) (s : S) (course : Course) (seen : Seen S) (n : Counts) (journal : Journal)
+    → IsPaused R c s course seen n → journal ≡ course.journal → IsStopped (starting_at s R) c seen n journal.moves
+stopped R c s course seen n journal is same =
+    subst (λ (j : Journal). IsStopped (starting_at s R) c seen n j.moves) (sym same) (record {
+      calm = (let calm = calm_of R c s course seen n is in record { fine = calm.fine; paid = calm.paid; at_work = calm.at_work; solution = calm.solution; calm = calm.calm });
+      reached = record {
+        place = place course.trail.entries course.lemmas seen.state is.at.last;
+        reached = reaches_of (starting_at s R) c course.journal.moves (place course.trail.entries course.lemmas seen.state is.at.last) is.at.underway.legal;
+        learned = is.at.underway.legal;
+        state = refl;
+        trail = sym is.at.underway.told;
+      };
+      tally = is.at.underway.tally;
+    })
+
+pub made_as : {S : Type 0} (R : Relations S) (c : Clauses) (s : S) (work : ℕ) (course : Course) (seen : Seen S) (n : Counts) (a b : Step) → a ≡ b
+    → Steps R c s work course seen n a → Steps R c s work course seen n b
+made_as R c s work course seen n a b same made = subst (λ (m : Step). Steps R c s work course seen n m) same made
+
+-- a stop that was allowed is one
+pub found_until : {S : Type 0} (R : Relations S) (c : Clauses) (may : Bool) (stop : Type 0) (seen : Seen S) (n : Counts) (answer : Until)
+    → FindsUntil R c (IsAllowedStop may stop) seen n answer → FindsUntil R c stop seen n answer
+found_until R c may stop seen n (until.Stopped journal) is = (is.0, is.1.1)
+found_until R c may stop seen n (until.Found answer) is = is
 
 -- ---- totals
 

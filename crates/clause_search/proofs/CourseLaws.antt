@@ -20,7 +20,7 @@ use Rattle.clause_search.specs.declared.course.Course.{Course}
 use Rattle.clause_search.specs.declared.course.Phase.{Phase}
 use Rattle.clause_search.specs.declared.course.Phase.TheVariants.{Told, Checked, Cut}
 use Rattle.clause_search.specs.Answers.{IsSpent, IsStart, IsStuck, starting_at}
-use Rattle.clause_search.specs.Courses.{IsClash, IsInPhase, IsLegal, IsStage, IsUnderway, MayBeTold, clauses_of, move_of, place, weight, work_left}
+use Rattle.clause_search.specs.Courses.{IsClash, IsInPhase, IsLegal, IsStage, IsUnderway, MayBeTold, move_of, place, weight, work_left}
 use Rattle.clause_search.specs.Lessons.{IsOpenLearning, SticksLearning}
 use Rattle.clause_search.specs.Opened.{IsOpened, Putting, charge_of}
 use Rattle.clause_search.specs.Steps.{Asks, LeavesLess}

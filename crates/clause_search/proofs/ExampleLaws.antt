@@ -1,21 +1,18 @@
 -- The theory of names answers as a theory does, and clauses over named atoms are well formed.
-use Rattle.std.proofs.Common.{◌≡◌, ℕ, zero, suc, ◌+◌, ◌<◌, ◌≤◌, ◌^◌, ℤ, pos, Bool, true, false, List, [], ◌∷◌, ◌++◌, map, take, length, replicate, Option, None, Some, IfSome, slice_get, All, refl, sym, ◌∙◌, ap, subst, arith}
+use Rattle.std.proofs.Common.{◌≡◌, ℕ, zero, suc, ◌+◌, ◌<◌, ◌≤◌, ◌^◌, ℤ, pos, Bool, true, false, List, [], ◌∷◌, ◌++◌, length, replicate, Some, IfSome, slice_get, All, refl, sym, ap, subst, arith}
 use Rattle.std.proofs.lemmas.List.{append-nil, length-replicate}
 use Rattle.std.proofs.lemmas.List.Elements.{All-head, All-tail}
-use Rattle.whole.specs.Budget.{Counts, counts, opening}
+use Rattle.whole.specs.Budget.{Counts, opening}
 use Rattle.whole.specs.declared.budget.Budget.{Budget}
 use Rattle.farkas_cert.specs.declared.journals.Journal.{Journal}
-use Rattle.farkas_cert.specs.declared.journals.Move.{Move}
-use Rattle.farkas_cert.specs.declared.journals.Move.TheVariants.{Pivot}
 use Rattle.farkas_cert.specs.declared.literals.Lit.{Lit}
 use Rattle.clause_form.specs.declared.clauses.Atom.{Atom}
 use Rattle.clause_form.specs.declared.clauses.Atom.TheVariants.{Named, Row}
 use Rattle.clause_form.specs.declared.clauses.Clauses.{Clauses}
 use Rattle.clause_form.specs.declared.theory.Heard.TheVariants as heard
-use Rattle.clause_form.specs.Derivations.{rows_of}
 use Rattle.clause_form.specs.Models.{RowHolds}
-use Rattle.clause_form.specs.Theories.{AreMet, HasSolution, HearsCheck, HearsLiteral, Seen, works, without_memory}
-use Rattle.clause_form.specs.WellFormed.{Below, IsWellFormed}
+use Rattle.clause_form.specs.Theories.{AreMet, HearsCheck, HearsLiteral, Seen, works, without_memory}
+use Rattle.clause_form.specs.WellFormed.{Below}
 use Rattle.clause_search.specs.Answers.{IsStart}
 use Rattle.clause_search.specs.Examples.{AreBelow, IsNamed, named_rows, names, seen_names}
 

@@ -1,8 +1,7 @@
 -- Literals whose rows have a common solution are no contradiction.
-use Rattle.std.proofs.Common.{◌≡◌, ◌↔◌, ℕ, zero, suc, ◌+◌, ◌<◌, ◌≤◌, ℤ, pos, ◌*ℤ◌, ◌≤ℤ◌, ◌<ℤ◌, Bool, true, false, IsTrue, ◌⊎◌, inl, inr, List, [], ◌∷◌, map, length, Option, None, Some, IfSome, slice_get, All, refl, sym, ◌∙◌, subst, arith}
+use Rattle.std.proofs.Common.{◌≡◌, ◌↔◌, ℕ, zero, suc, ◌<◌, ℤ, pos, ◌*ℤ◌, Bool, true, false, IsTrue, inl, inr, List, [], ◌∷◌, map, Option, None, Some, IfSome, slice_get, All, refl, sym, subst, arith}
 use Rattle.std.specs.Option.{option_map_or}
 use Rattle.std.proofs.lemmas.Bool.{true≢false}
-use Rattle.std.proofs.lemmas.Int.{ints}
 use Rattle.std.proofs.lemmas.List.Elements.{All-head, All-tail}
 use Rattle.whole.proofs.Integers.{<ℤ-not-≤ℤ, ≤ℤ_or_>}
 use Rattle.linear_form.specs.NormalForm.{Bounds}
@@ -13,7 +12,7 @@ use Rattle.farkas_cert.specs.declared.trees.Part.{Part}
 use Rattle.clause_form.specs.declared.clauses.Atom.{Atom}
 use Rattle.clause_form.specs.declared.clauses.Atom.TheVariants.{Row, Named}
 use Rattle.clause_form.specs.declared.clauses.Clauses.{Clauses}
-use Rattle.clause_form.specs.Derivations.{ArePartsOf, Has, IsContradiction, LitRow, Rows, row_of, row_of_atom, rows_of}
+use Rattle.clause_form.specs.Derivations.{ArePartsOf, Has, IsContradiction, LitRow, Rows, row_of_atom, rows_of}
 use Rattle.clause_form.specs.Models.{RowHolds, form_value}
 use Rattle.clause_form.specs.Theories.{AreMet, HasSolution}
 use Rattle.clause_form.specs.WellFormed.{IsGoodForm, IsWellFormed}

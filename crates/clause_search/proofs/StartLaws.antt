@@ -1,5 +1,5 @@
 -- What is learned from the starts of a conflict.
-use Rattle.std.proofs.Common.{◌≡◌, ℕ, ◌⊎◌, inl, inr, List, Result, Ok, Err, IfOk, refl, sym, ◌∙◌, subst}
+use Rattle.std.proofs.Common.{◌≡◌, ℕ, ◌⊎◌, inl, inr, List, Result, Ok, Err, IfOk, refl, sym, subst}
 use Rattle.farkas_cert.specs.Trees.{tree_of}
 use Rattle.farkas_cert.specs.declared.literals.Lit.{Lit}
 use Rattle.clause_form.specs.Derivations.{Rows}
@@ -13,7 +13,7 @@ use Rattle.learned_clause.specs.declared.learning.Start.{Start}
 use Rattle.learned_clause.specs.declared.learning.Start.TheVariants.{Clause}
 use Rattle.learned_clause.specs.declared.trails.Assigned.{Assigned}
 use Rattle.clause_search.specs.Standings.{IsFalseAt}
-use Rattle.clause_search.specs.Starts.{IsLearnedHere, IsStartHere}
+use Rattle.clause_search.specs.Starts.{IsLearnedHere}
 
 pub learned_here : (rows : Rows) (known : List (List Lit)) (trail : List Entry) (assigned : List Assigned) (start : Start)
     (result : Result Learned NoMemory) → entries assigned ≡ trail

@@ -17,6 +17,8 @@ use Rattle.clause_form.specs.WellFormed.{IsWellFormed}
 use Rattle.learned_clause.specs.LightTrees.{IsLight}
 use Rattle.clause_search.specs.declared.found.Found.{Found}
 use Rattle.clause_search.specs.declared.found.Found.TheVariants as found
+use Rattle.clause_search.specs.declared.found.Until.{Until}
+use Rattle.clause_search.specs.declared.found.Until.TheVariants as until
 use Rattle.clause_search.specs.Lessons.{IsOpenLearning, ReachesLearning, SticksLearning}
 
 -- the same relations, with this state as the only opening
@@ -55,6 +57,14 @@ abbrev pub AreLight : Rows → List Lemma → Type 0
 AreLight rows [] = Unit {0}
 AreLight rows (lemma ∷ lemmas) = IsLight rows 4096 (tree_of lemma.proof) × AreLight rows lemmas
 
+-- the theory's last answer was Fine
+pub record IsCalm {S : Type 0} (R : Relations S) (seen : Seen S) : Type 0 where
+  pub fine : seen.fine ≡ true
+  pub paid : seen.owes ≡ false
+  pub at_work : seen.rest ≡ works
+  pub solution : HasSolution seen.rows seen.told
+  pub calm : R.violated seen.state → ⊥
+
 module _ {S : Type 0} (R : Relations S) (c : Clauses) where
   -- the moves reach a place with the literals told and the state of the theory, and each conflict among them learns
   pub record IsReached (moves : List Move) (seen : Seen S) : Type 0 where
@@ -74,6 +84,12 @@ module _ {S : Type 0} (R : Relations S) (c : Clauses) where
     pub at_work : seen.rest ≡ works
     pub solution : HasSolution seen.rows seen.told
     pub calm : R.violated seen.state → ⊥
+    pub reached : IsReached moves seen
+    pub tally : IsTally moves n
+
+  -- the search stands at a decision
+  pub record IsStopped (seen : Seen S) (n : Counts) (moves : List Move) : Type 0 where
+    pub calm : IsCalm R seen
     pub reached : IsReached moves seen
     pub tally : IsTally moves n
 
@@ -103,3 +119,8 @@ module _ {S : Type 0} (R : Relations S) (c : Clauses) where
   Finds seen n (found.Spent journal) = IsSpent n journal.moves
   Finds seen n (found.Stuck stuck journal) = IsStuck n stuck journal.moves
   Finds seen n found.NoMemory = Unit {0}
+
+  -- the same of a search that may be stopped, with what its guide says of a stop
+  abbrev pub FindsUntil : Type 0 → Seen S → Counts → Until → Type 0
+  FindsUntil stop seen n (until.Stopped journal) = IsStopped seen n journal.moves × stop
+  FindsUntil stop seen n (until.Found answer) = Finds seen n answer

@@ -1,5 +1,5 @@
 -- Clauses over named atoms, and a theory that grants all literals.
-use Rattle.std.specs.Prelude.{◌≡◌, ℕ, Bool, true, false, List, [], ◌∷◌, replicate, if◌then◌else◌}
+use Rattle.std.specs.Prelude.{◌≡◌, ℕ, Bool, false, List, [], ◌∷◌, replicate, if◌then◌else◌}
 use Rattle.farkas_cert.specs.declared.literals.Lit.{Lit}
 use Rattle.clause_form.specs.declared.clauses.Atom.TheVariants.{Named}
 use Rattle.clause_form.specs.declared.clauses.Clauses.{Clauses}

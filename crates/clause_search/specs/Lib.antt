@@ -1,3 +1,4 @@
+pub mod Advices
 pub mod Answers
 pub mod Courses
 pub mod Lessons

@@ -1,5 +1,5 @@
 -- What the steps of a search answer.
-use Rattle.std.specs.Prelude.{◌≡◌, ℕ, ◌+◌, ◌<◌, ◌≤◌, ◌^◌, List, ◌∷◌, [], ◌++◌, map, length, Option, None, Some}
+use Rattle.std.specs.Prelude.{◌≡◌, ℕ, ◌+◌, ◌<◌, ◌≤◌, ◌^◌, Bool, true, List, ◌∷◌, [], ◌++◌, map, length, Option, None, Some}
 use Rattle.whole.specs.Budget.{Counts}
 use Rattle.farkas_cert.specs.Trees.{derived, tree_of}
 use Rattle.farkas_cert.specs.declared.certificates.Lemma.{Lemma}
@@ -19,6 +19,8 @@ use Rattle.clause_search.specs.declared.course.Course.{Course}
 use Rattle.clause_search.specs.declared.course.Phase.TheVariants.{Told, Checked}
 use Rattle.clause_search.specs.declared.step.Step.{Step}
 use Rattle.clause_search.specs.declared.step.Step.TheVariants as step
+use Rattle.clause_search.specs.declared.step.Turn.{Turn}
+use Rattle.clause_search.specs.declared.step.Turn.TheVariants as turn
 use Rattle.clause_search.specs.Answers.{AreLight, IsSpent, IsStuck, starting_at}
 use Rattle.clause_search.specs.Courses.{IsAt, IsAtClash, IsUnderway, place, work_at_clash, work_left}
 use Rattle.clause_search.specs.Lessons.{IsLesson}
@@ -97,6 +99,16 @@ module _ {S : Type 0} (R : Relations S) (c : Clauses) (s : S) where
   Steps work course seen n (step.Stuck stuck) = IsStuck (starting_at s R) c n stuck course.journal.moves
   Steps work course seen n step.NoMemory = Unit {0}
 
+  -- the search stands at a decision, and the last check answered Fine
+  pub record IsPaused (course : Course) (seen : Seen S) (n : Counts) : Type 0 where
+    pub at : IsAt R c s course seen n
+    pub checked : course.phase ≡ Checked
+
+  -- a step is made, or the guide stops the search
+  abbrev pub Turns : Type 0 → ℕ → Course → Seen S → Counts → Turn → Type 0
+  Turns stop work course seen n (turn.Takes made) = Steps work course seen n made
+  Turns stop work course seen n turn.Stops = IsPaused course seen n × stop
+
 -- what a cut needs before it
 pub record MayJump {S : Type 0} (known : List (List Lit)) (seen : Seen S) (n : Counts) (keep : ℕ) : Type 0 where
   pub few : length known < 2 ^ 32
@@ -111,6 +123,10 @@ Refutes old lemma new step.Closed = new ≡ old ++ lemma ∷ []
 Refutes old lemma new step.Spent = ⊥
 Refutes old lemma new (step.Stuck stuck) = ⊥
 Refutes old lemma new step.NoMemory = Unit {0}
+
+-- a stop that was allowed
+abbrev pub IsAllowedStop : Bool → Type 0 → Type 0
+IsAllowedStop may_stop stop = (may_stop ≡ true) × stop
 
 -- the atom is in range and off the trail
 abbrev pub IfFree : View → Option Lit → Type 0

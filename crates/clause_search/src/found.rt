@@ -16,3 +16,11 @@ pub enum Found {
     Stuck(Stuck, Journal),
     NoMemory,
 }
+
+/// What a search that its guide may stop came to.
+#[derive(Debug, Drop)]
+pub enum Until {
+    /// The guide stopped it at a decision, after these moves.
+    Stopped(Journal),
+    Found(Found),
+}

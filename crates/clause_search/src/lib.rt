@@ -10,6 +10,7 @@ mod asking;
 mod conflict;
 mod course;
 mod found;
+mod guide;
 mod lessons;
 #[cfg(test)]
 mod names;
@@ -21,5 +22,6 @@ mod survey;
 mod tests;
 mod trail;
 
-pub use found::Found;
-pub use searching::search;
+pub use found::{Found, Until};
+pub use guide::{Advice, Guide, Unguided};
+pub use searching::{search, search_guided, search_until};

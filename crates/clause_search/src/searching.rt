@@ -2,14 +2,16 @@
 ghost use Rattle.std.specs.Prelude.{◌≡◌, length};
 ghost use Rattle.whole.specs.Budget.{counts};
 ghost use Rattle.clause_form.specs.WellFormed.{IsWellFormed};
-ghost use Rattle.clause_search.specs.Answers.{Finds, IsStart, starting_at};
+ghost use Rattle.clause_search.specs.Answers.{Finds, FindsUntil, IsStart, starting_at};
 ghost use Rattle.clause_form.specs.Journals.{literals};
 ghost use Rattle.clause_search.specs.Opened.{IsOfCourse};
+ghost use Rattle.clause_search.specs.Steps.{IsAllowedStop};
 ghost use Rattle.clause_search.specs.Tables.{NameAll};
 
 use crate::course::Course;
-use crate::found::Found;
-use crate::step::{Step, take_step};
+use crate::found::{Found, Until};
+use crate::guide::{Guide, Unguided};
+use crate::step::{Step, Turn, take_step};
 use clause_form::{Clauses, Theory};
 use farkas_cert::{Cert, Lemma};
 use sqlite_items::Items;
@@ -32,17 +34,76 @@ pub fn search<T: Theory>(
     ensures rows { (T.seen theory.new).rows ≡ (T.seen theory.old).rows }
     ensures limit { budget.new.limit ≡ budget.old.limit }
 {
+    search_guided(alloc, clauses, theory, budget, &mut Unguided)
+}
+
+/// The same search, which decides as the guide advises. It never stops before Total.
+pub fn search_guided<T: Theory, G: Guide<T>>(
+    alloc: Global,
+    clauses: &Clauses,
+    theory: &mut T,
+    budget: &mut Budget,
+    guide: &mut G,
+) -> Found
+    requires { IsStart T.relations clauses.now (T.seen theory.old) (counts budget.old) }
+    ensures found { Finds (starting_at (T.seen theory.old).state T.relations) clauses.now (T.seen theory.new) (counts budget.new) result }
+    ensures rows { (T.seen theory.new).rows ≡ (T.seen theory.old).rows }
+    ensures limit { budget.new.limit ≡ budget.old.limit }
+{
+    match run(alloc, clauses, theory, budget, guide, false) {
+        Until::Found(found) => found,
+        Until::Stopped(_) => unreachable!(),
+    }
+}
+
+/// The same search, which the guide may stop at a decision.
+pub fn search_until<T: Theory, G: Guide<T>>(
+    alloc: Global,
+    clauses: &Clauses,
+    theory: &mut T,
+    budget: &mut Budget,
+    guide: &mut G,
+) -> Until
+    requires { IsStart T.relations clauses.now (T.seen theory.old) (counts budget.old) }
+    ensures found { FindsUntil (starting_at (T.seen theory.old).state T.relations) clauses.now (G.stops clauses.now guide.new theory.new) (T.seen theory.new) (counts budget.new) result }
+    ensures rows { (T.seen theory.new).rows ≡ (T.seen theory.old).rows }
+    ensures limit { budget.new.limit ≡ budget.old.limit }
+{
+    run(alloc, clauses, theory, budget, guide, true)
+}
+
+// Makes steps until one ends the search. The guide is obeyed where it stops only if `may_stop` says so.
+fn run<T: Theory, G: Guide<T>>(
+    alloc: Global,
+    clauses: &Clauses,
+    theory: &mut T,
+    budget: &mut Budget,
+    guide: &mut G,
+    may_stop: bool,
+) -> Until
+    requires { IsStart T.relations clauses.now (T.seen theory.old) (counts budget.old) }
+    ensures found { FindsUntil (starting_at (T.seen theory.old).state T.relations) clauses.now (IsAllowedStop may_stop (G.stops clauses.now guide.new theory.new)) (T.seen theory.new) (counts budget.new) result }
+    ensures rows { (T.seen theory.new).rows ≡ (T.seen theory.old).rows }
+    ensures limit { budget.new.limit ≡ budget.old.limit }
+{
     let Ok(mut course) = Course::new(alloc, clauses) else {
-        return Found::NoMemory;
+        return Until::Found(Found::NoMemory);
     };
     'steps: loop {
-        match take_step(alloc, clauses, &mut course, theory, budget) {
-            Step::GoesOn => {}
-            Step::Total => return total(alloc, course),
-            Step::Closed => return Found::Closed(certificate(clauses, course.into_lemmas())),
-            Step::Spent => return Found::Spent(course.into_journal()),
-            Step::Stuck(stuck) => return Found::Stuck(stuck, course.into_journal()),
-            Step::NoMemory => return Found::NoMemory,
+        match take_step(alloc, clauses, &mut course, theory, budget, guide, may_stop) {
+            Turn::Takes(Step::GoesOn) => {}
+            Turn::Takes(Step::Total) => return Until::Found(total(alloc, course)),
+            Turn::Takes(Step::Closed) => {
+                return Until::Found(Found::Closed(certificate(clauses, course.into_lemmas())));
+            }
+            Turn::Takes(Step::Spent) => {
+                return Until::Found(Found::Spent(course.into_journal()));
+            }
+            Turn::Takes(Step::Stuck(stuck)) => {
+                return Until::Found(Found::Stuck(stuck, course.into_journal()));
+            }
+            Turn::Takes(Step::NoMemory) => return Until::Found(Found::NoMemory),
+            Turn::Stops => return Until::Stopped(course.into_journal()),
         }
     }
 }

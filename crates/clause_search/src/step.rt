@@ -2,12 +2,13 @@
 ghost use Rattle.std.specs.Prelude.{◌≡◌, ℕ, ◌≤◌};
 ghost use Rattle.whole.specs.Budget.{counts};
 ghost use Rattle.clause_search.specs.Courses.{IsAt, work_left};
-ghost use Rattle.clause_search.specs.Steps.{Asks, Chooses, IfFree, IsAdvancing, IsDeciding, IsPropagating, LeavesLess, Steps};
+ghost use Rattle.clause_search.specs.Steps.{Asks, Chooses, IfFree, IsAdvancing, IsDeciding, IsAllowedStop, IsPropagating, LeavesLess, Steps, Turns};
 
 use crate::agenda::Reason;
 use crate::asking::{assume, check};
 use crate::conflict::conflict;
 use crate::course::{Course, Phase};
+use crate::guide::{Advice, Guide};
 use crate::survey::{Survey, look_over};
 use crate::trail::Trail;
 use clause_form::{Clauses, Heard, Theory};
@@ -32,17 +33,29 @@ pub(crate) enum Step {
     NoMemory,
 }
 
+/// What is done in one turn of the search.
+#[derive(Debug, Drop)]
+pub(crate) enum Turn {
+    /// A step is made.
+    Takes(Step),
+    /// The guide stops the search at a decision.
+    Stops,
+}
+
 /// Makes one step. A false clause comes first, then the check that follows a literal, then a clause
-/// that gives a literal, and a decision only where there is none.
-pub(crate) fn take_step<T: Theory>(
+/// that gives a literal, and a decision only where there is none. There the guide
+/// may stop the search, if `may_stop` says so.
+pub(crate) fn take_step<T: Theory, G: Guide<T>>(
     alloc: Global,
     clauses: &Clauses,
     course: &mut Course,
     theory: &mut T,
     budget: &mut Budget,
-) -> Step
+    guide: &mut G,
+    may_stop: bool,
+) -> Turn
     requires { (s : T.State) × IsAt T.relations clauses.now s course.old (T.seen theory.old) (counts budget.old) }
-    ensures steps { (s : T.State) → IsAt T.relations clauses.now s course.old (T.seen theory.old) (counts budget.old) → Steps T.relations clauses.now s (work_left course.old (counts budget.old)) course.new (T.seen theory.new) (counts budget.new) result }
+    ensures turns { (s : T.State) → IsAt T.relations clauses.now s course.old (T.seen theory.old) (counts budget.old) → Turns T.relations clauses.now s (IsAllowedStop may_stop (G.stops clauses.now guide.new theory.new)) (work_left course.old (counts budget.old)) course.new (T.seen theory.new) (counts budget.new) result }
     ensures rows { (T.seen theory.new).rows ≡ (T.seen theory.old).rows }
     ensures limit { budget.new.limit ≡ budget.old.limit }
 {
@@ -51,23 +64,24 @@ pub(crate) fn take_step<T: Theory>(
         .next_false(clauses, course.lemmas.as_slice(), &course.trail)
     {
         Ok(Some(number)) => {
-            conflict(
+            let step = conflict(
                 alloc,
                 clauses,
                 course,
                 theory,
                 budget,
                 Start::Clause(number),
-            )
+            );
+            Turn::Takes(step)
         }
         Ok(None) => match course.phase {
             Phase::Told => {
                 let heard = check(course, theory, budget);
-                after(alloc, clauses, course, theory, budget, heard)
+                Turn::Takes(after(alloc, clauses, course, theory, budget, heard))
             }
-            _ => advance(alloc, clauses, course, theory, budget),
+            _ => advance(alloc, clauses, course, theory, budget, guide, may_stop),
         },
-        Err(NoMemory) => Step::NoMemory,
+        Err(NoMemory) => Turn::Takes(Step::NoMemory),
     }
 }
 
@@ -102,15 +116,17 @@ fn after<T: Theory>(
 }
 
 // Propagates, or decides where all is propagated.
-fn advance<T: Theory>(
+fn advance<T: Theory, G: Guide<T>>(
     alloc: Global,
     clauses: &Clauses,
     course: &mut Course,
     theory: &mut T,
     budget: &mut Budget,
-) -> Step
+    guide: &mut G,
+    may_stop: bool,
+) -> Turn
     requires { (s : T.State) × IsAdvancing T.relations clauses.now s course.old (T.seen theory.old) (counts budget.old) }
-    ensures steps { (s : T.State) → IsAdvancing T.relations clauses.now s course.old (T.seen theory.old) (counts budget.old) → Steps T.relations clauses.now s (work_left course.old (counts budget.old)) course.new (T.seen theory.new) (counts budget.new) result }
+    ensures turns { (s : T.State) → IsAdvancing T.relations clauses.now s course.old (T.seen theory.old) (counts budget.old) → Turns T.relations clauses.now s (IsAllowedStop may_stop (G.stops clauses.now guide.new theory.new)) (work_left course.old (counts budget.old)) course.new (T.seen theory.new) (counts budget.new) result }
     ensures rows { (T.seen theory.new).rows ≡ (T.seen theory.old).rows }
     ensures limit { budget.new.limit ≡ budget.old.limit }
 {
@@ -118,23 +134,29 @@ fn advance<T: Theory>(
         .agenda
         .next_unit(clauses, course.lemmas.as_slice(), &course.trail)
     {
-        return propagate(alloc, clauses, course, theory, budget, reason);
+        return Turn::Takes(propagate(alloc, clauses, course, theory, budget, reason));
     }
     match look_over(clauses, course.lemmas.as_slice(), &course.trail) {
         Survey::False(number) => {
-            conflict(
+            let step = conflict(
                 alloc,
                 clauses,
                 course,
                 theory,
                 budget,
                 Start::Clause(number),
-            )
+            );
+            Turn::Takes(step)
         }
         Survey::Unit(by, lit) => {
-            propagate(alloc, clauses, course, theory, budget, Reason { lit, by })
+            let reason = Reason { lit, by };
+            Turn::Takes(propagate(alloc, clauses, course, theory, budget, reason))
         }
-        Survey::Settled(wish) => decide(alloc, clauses, course, theory, budget, wish),
+        Survey::Settled(wish) => {
+            consult(
+                alloc, clauses, course, theory, budget, guide, wish, may_stop,
+            )
+        }
     }
 }
 
@@ -156,6 +178,41 @@ fn propagate<T: Theory>(
     after(alloc, clauses, course, theory, budget, heard)
 }
 
+// Asks the guide at a decision, and decides unless it stops the search.
+fn consult<T: Theory, G: Guide<T>>(
+    alloc: Global,
+    clauses: &Clauses,
+    course: &mut Course,
+    theory: &mut T,
+    budget: &mut Budget,
+    guide: &mut G,
+    wish: Option<Lit>,
+    may_stop: bool,
+) -> Turn
+    requires { (s : T.State) × IsDeciding T.relations clauses.now s course.old (T.seen theory.old) (counts budget.old) wish }
+    ensures turns { (s : T.State) → IsDeciding T.relations clauses.now s course.old (T.seen theory.old) (counts budget.old) wish → Turns T.relations clauses.now s (IsAllowedStop may_stop (G.stops clauses.now guide.new theory.new)) (work_left course.old (counts budget.old)) course.new (T.seen theory.new) (counts budget.new) result }
+    ensures rows { (T.seen theory.new).rows ≡ (T.seen theory.old).rows }
+    ensures limit { budget.new.limit ≡ budget.old.limit }
+{
+    let advice = guide.advise(
+        clauses,
+        course.lemmas.as_slice(),
+        course.trail.as_slice(),
+        &*theory,
+    );
+    let preferred = match advice {
+        Advice::Decide(lit) => Some(lit),
+        Advice::Nothing => None,
+        Advice::Stop => {
+            if may_stop {
+                return Turn::Stops;
+            }
+            None
+        }
+    };
+    Turn::Takes(decide(alloc, clauses, course, theory, budget, preferred, wish))
+}
+
 /// Assumes a literal, or finds that each atom is on the trail.
 fn decide<T: Theory>(
     alloc: Global,
@@ -163,6 +220,7 @@ fn decide<T: Theory>(
     course: &mut Course,
     theory: &mut T,
     budget: &mut Budget,
+    advice: Option<Lit>,
     wish: Option<Lit>,
 ) -> Step
     requires { (s : T.State) × IsDeciding T.relations clauses.now s course.old (T.seen theory.old) (counts budget.old) wish }
@@ -170,7 +228,7 @@ fn decide<T: Theory>(
     ensures rows { (T.seen theory.new).rows ≡ (T.seen theory.old).rows }
     ensures limit { budget.new.limit ≡ budget.old.limit }
 {
-    match choose(&course.trail, wish) {
+    match choose(&course.trail, advice, wish) {
         Some(lit) => {
             let heard = assume(course, theory, budget, lit, None);
             after(alloc, clauses, course, theory, budget, heard)
@@ -179,9 +237,22 @@ fn decide<T: Theory>(
     }
 }
 
-// The literal to decide: the one that is wished for, and where each clause is true already the least
-// atom off the trail, negative.
-fn choose(trail: &Trail, wish: Option<Lit>) -> Option<Lit>
+// The literal to decide: the advice, if its atom is off the trail, else the one that is wished for,
+// and where each clause is true already the least atom off the trail, negative.
+fn choose(trail: &Trail, advice: Option<Lit>, wish: Option<Lit>) -> Option<Lit>
+    requires few { trail.now.atoms ≤ 4096 }
+    requires wish { IfFree trail.now wish }
+    ensures { Chooses trail.now result }
+{
+    if let Some(lit) = advice {
+        if trail.is_free(lit.atom) {
+            return Some(lit);
+        }
+    }
+    wish_or_any(trail, wish)
+}
+
+fn wish_or_any(trail: &Trail, wish: Option<Lit>) -> Option<Lit>
     requires few { trail.now.atoms ≤ 4096 }
     requires wish { IfFree trail.now wish }
     ensures { Chooses trail.now result }

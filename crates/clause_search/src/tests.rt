@@ -3,11 +3,13 @@ ghost use Rattle.std.specs.Prelude.{◌≡◌, ◌↔◌, ◌<◌, ◌≤◌, �
 ghost use Rattle.clause_form.specs.declared.clauses.Atom.TheVariants.{Named};
 ghost use Rattle.clause_search.specs.Examples.{IsNamed};
 
-use crate::found::Found;
+use crate::found::{Found, Until};
+use crate::guide::{Advice, Guide};
 use crate::names::Names;
-use crate::searching::search;
+use crate::searching::{search, search_guided, search_until};
 use clause_form::{Atom, Clauses};
-use farkas_cert::{Lit, Lits};
+use farkas_cert::{Lemma, Lit, Lits};
+use learned_clause::Assigned;
 use sqlite_items::Items;
 use std::alloc::Global;
 use std::test::Fail;
@@ -118,6 +120,131 @@ fn found(
         }
         None => Ok(None),
     }
+}
+
+// Advises this literal at each decision, also where its atom is on the trail.
+#[derive(Debug, Drop)]
+struct Prefers {
+    lit: Lit,
+}
+
+impl Guide<Names> for Prefers {
+    ghost stops = { λ clauses guide theory. ⊥ };
+
+    fn advise(
+        &mut self,
+        _clauses: &Clauses,
+        _lemmas: &[Lemma],
+        _trail: &[Assigned],
+        _theory: &Names,
+    ) -> Advice {
+        Advice::Decide(self.lit)
+    }
+}
+
+// What is found over two atoms without a clause, where this literal is preferred.
+fn found_by(alloc: Global, lit: Lit) -> Result<Option<Found>, NoMemory> {
+    let some = named(alloc, 2, Items::new(alloc))?;
+    match some {
+        Some(clauses) => {
+            let mut theory = Names::new(alloc, 2);
+            let mut budget = Budget::new(100);
+            let mut guide = Prefers { lit };
+            let found = search_guided(alloc, &clauses, &mut theory, &mut budget, &mut guide);
+            Ok(Some(found))
+        }
+        None => Ok(None),
+    }
+}
+
+// Stops at the first decision.
+#[derive(Clone, Copy, Debug)]
+struct Stops;
+
+impl Guide<Names> for Stops {
+    ghost stops = { λ clauses guide theory. Unit {0} };
+
+    fn advise(
+        &mut self,
+        _clauses: &Clauses,
+        _lemmas: &[Lemma],
+        _trail: &[Assigned],
+        _theory: &Names,
+    ) -> Advice {
+        Advice::Stop
+    }
+}
+
+// What a search comes to over three atoms of which a clause gives the first, where it may be stopped.
+fn stopped(alloc: Global) -> Result<Option<Until>, NoMemory> {
+    let mut clauses = Items::new(alloc);
+    clauses.push(of_atoms(alloc, &[0], true)?)?;
+    let some = named(alloc, 3, clauses)?;
+    match some {
+        Some(clauses) => {
+            let mut theory = Names::new(alloc, 3);
+            let mut budget = Budget::new(100);
+            let until = search_until(alloc, &clauses, &mut theory, &mut budget, &mut Stops);
+            Ok(Some(until))
+        }
+        None => Ok(None),
+    }
+}
+
+// The same where it may not.
+fn not_stopped(alloc: Global) -> Result<Option<Found>, NoMemory> {
+    let mut clauses = Items::new(alloc);
+    clauses.push(of_atoms(alloc, &[0], true)?)?;
+    let some = named(alloc, 3, clauses)?;
+    match some {
+        Some(clauses) => {
+            let mut theory = Names::new(alloc, 3);
+            let mut budget = Budget::new(100);
+            let found = search_guided(alloc, &clauses, &mut theory, &mut budget, &mut Stops);
+            Ok(Some(found))
+        }
+        None => Ok(None),
+    }
+}
+
+// A stop leaves the one propagation before the first decision; `search_guided` decides the other two
+// atoms all the same.
+#[test]
+fn a_guide_stops_a_search_that_allows_it(rt: HostRuntime) -> Result<(), Fail> {
+    let alloc = rt.alloc();
+    match stopped(alloc).expect(&rt, "memory") {
+        Some(Until::Stopped(journal)) => assert_eq!(rt; journal.moves.len(), 1),
+        other => assert!(rt; false, "{other:?}"),
+    }
+    match not_stopped(alloc).expect(&rt, "memory") {
+        Some(Found::Total(truths, journal)) => {
+            assert_eq!(rt; truths.as_slice(), [true, false, false].as_slice());
+            assert_eq!(rt; journal.moves.len(), 3);
+        }
+        other => assert!(rt; false, "{other:?}"),
+    }
+    Ok(())
+}
+
+// Atom 1 is decided as advised, and atom 0 by the search's own rule; an atom out of range is passed
+// over.
+#[test]
+fn advice_is_taken_where_it_may_be(rt: HostRuntime) -> Result<(), Fail> {
+    let alloc = rt.alloc();
+    for (atom, second) in [(1, true), (7, false)] {
+        let lit = Lit {
+            atom,
+            positive: true,
+        };
+        match found_by(alloc, lit).expect(&rt, "memory") {
+            Some(Found::Total(truths, journal)) => {
+                assert_eq!(rt; truths.as_slice(), [false, second].as_slice());
+                assert_eq!(rt; journal.moves.len(), 2);
+            }
+            other => assert!(rt; false, "{other:?}"),
+        }
+    }
+    Ok(())
 }
 
 // Four items have no places among three, and few lemmas show it.

@@ -1,5 +1,5 @@
 // The trail: the literals that are assumed, with the truth that they give each atom.
-ghost use Rattle.std.specs.Prelude.{◌≡◌, ℕ, ◌-◌, ◌<◌, ◌≤◌, [], ◌∷◌, ◌++◌, length, map, take, slice_index_or, IfOk, MatchOption, Bool, Option, None};
+ghost use Rattle.std.specs.Prelude.{◌≡◌, ℕ, ◌-◌, ◌<◌, ◌≤◌, [], ◌∷◌, ◌++◌, length, map, take, slice_index_or, IfOk, MatchOption, Bool, true, Option, None};
 ghost use Rattle.clause_form.specs.Derivations.{HasAtom};
 ghost use Rattle.clause_form.specs.Journals.{literals};
 ghost use Rattle.learned_clause.specs.Trails.{entries as entries_of};
@@ -71,6 +71,16 @@ impl Trail {
         match self.truth(lit.atom) {
             Some(truth) => Some(truth == lit.positive),
             None => None,
+        }
+    }
+
+    /// Whether the atom is in range and off the trail.
+    pub(crate) fn is_free(&self, atom: u32) -> bool
+        ensures { result ≡ true → (atom < self.now.atoms) × (HasAtom atom (literals self.now.entries) → ⊥) }
+    {
+        match self.truth(atom) {
+            Some(_) => false,
+            None => (atom as usize) < self.truths.len(),
         }
     }
 

@@ -8,11 +8,11 @@ use Rattle.clause_search.specs.Standings.{IsFalseAt}
 use Rattle.clause_search.proofs.ConflictLaws.{most_work}
 use Rattle.clause_search.proofs.step.take_step.Goals as goal
 
-pub returns-in-Ok-Some-clause-steps : goal.returns-in-Ok-Some-clause-steps
-returns-in-Ok-Some-clause-steps g c s at =
+pub returns-in-Ok-Some-clause-turns : goal.returns-in-Ok-Some-clause-turns
+returns-in-Ok-Some-clause-turns g c s at =
     let fails = subst (λ (found : Option ℕ). IfSome found (λ number. IsFalseAt (known_with c.args.clauses.now.clauses c.as_slice.result.now) (literals c.args.course.now.trail.entries) number)) c.in-Ok-Some.field-0-is c.in-Ok-Some.ensures.found in
-    c.conflict.ensures.steps s (at, subst (λ (ls : List Lemma). IsFalseAt (known_with c.args.clauses.now.clauses ls) (literals c.args.course.now.trail.entries) c.in-Ok-Some.number) c.as_slice.ensures fails) (work_left c.args.course.now (counts c.args.budget.now)) (most_work c.args.course.now (counts c.args.budget.now))
+    c.conflict-step.ensures.steps s (at, subst (λ (ls : List Lemma). IsFalseAt (known_with c.args.clauses.now.clauses ls) (literals c.args.course.now.trail.entries) c.in-Ok-Some.number) c.as_slice.ensures fails) (work_left c.args.course.now (counts c.args.budget.now)) (most_work c.args.course.now (counts c.args.budget.now))
 
-pub returns-in-Told-clause-steps : goal.returns-in-Told-clause-steps
-returns-in-Told-clause-steps g c s at =
+pub returns-in-Told-clause-turns : goal.returns-in-Told-clause-turns
+returns-in-Told-clause-turns g c s at =
     c.after.ensures.steps s (work_left c.args.course.now (counts c.args.budget.now)) (c.check-heard.ensures.asks c.args.clauses.now s at) c.check-heard.ensures.less

@@ -1,7 +1,7 @@
 use Rattle.std.proofs.Common.{◌≡◌}
 use Rattle.whole.specs.Budget.{counts}
 use Rattle.clause_search.specs.Courses.{IsAt, work_left}
-use Rattle.clause_search.proofs.searching.search.Given as goal
+use Rattle.clause_search.proofs.searching.run.Given as goal
 
 abbrev pub invariant-steps : goal.invariant-steps
 invariant-steps g l = record {
