@@ -1,8 +1,8 @@
 //! The program `ccac`: makes the real folder and the real output, and carries out the words of the command line.
 #![tactic(auto)]
 
-use ccac_cli::run;
 use ccac_ports::{RealFolder, RealSink};
+use command_line::run;
 use std::process::ExitCode;
 use std::{env, io};
 

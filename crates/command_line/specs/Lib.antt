@@ -1,0 +1,4 @@
+pub mod Carried
+pub mod Kept
+pub mod Generated
+pub mod Runs
