@@ -1,0 +1,4 @@
+pub mod Measures
+pub mod Panels
+pub mod Places
+pub mod Texts
