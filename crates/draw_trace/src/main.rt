@@ -7,7 +7,8 @@ use question_syntax::read_setting;
 use run_rows::{Run, Shape};
 use std::process::ExitCode;
 use std::{env, io};
-use trace_picture::{picture, svg};
+use picture_svg::svg;
+use trace_picture::draw;
 use trace_text::read_trace;
 
 fn main(rt: HostRuntime) -> ExitCode {
@@ -29,7 +30,7 @@ fn main(rt: HostRuntime) -> ExitCode {
     let trace = trace.as_slice();
     let trace = if trace.len() > 9 && trace[0] == b'v' { &trace[9..] } else { trace };
     let Ok((shape, run)) = read_trace(rt.alloc(), trace) else { return ExitCode::from(3); };
-    let Ok(pic) = picture(rt.alloc(), &setting.path, &shape, &run) else { return ExitCode::from(2); };
+    let Ok(pic) = draw(rt.alloc(), &setting.path, &shape, &run) else { return ExitCode::from(2); };
     let Ok(text) = svg(rt.alloc(), &pic) else { return ExitCode::from(7); };
     if out.put(text.as_slice()).is_err() { return ExitCode::from(6); }
     ExitCode::from(0)

@@ -7,7 +7,7 @@ use Rattle.run_rows.specs.declared.shapes.Shape.{Shape}
 use Rattle.path_server.specs.Rules.{unit}
 use Rattle.path_server.specs.Servers.{Server, server_of}
 use Rattle.path_server.specs.declared.settings.Path.{Path}
-use Rattle.trace_picture.specs.Places.{points_of}
+use Rattle.trace_picture.specs.Places.{across_of, points_of, ticks_of}
 use Rattle.trace_picture.specs.declared.lines.Quantity.{Quantity}
 use Rattle.trace_picture.specs.declared.lines.Quantity.TheVariants.{Sent, Accepted, Served, Lost, Waiting, State, Most, Least, AllAccepted, AllServed, Backlog, Buffer}
 use Rattle.trace_picture.specs.declared.lines.Title.{Title}
@@ -58,6 +58,7 @@ pub record IsScale (p : Server) (r : Run) (s : Scale) : Type 0 where
 
 pub record IsPanel (p : Path) (shape : Shape) (r : Run) (panel : Panel) : Type 0 where
   pub scale_is : IsScale (server_of p) r panel.scale
+  pub ticks_are : panel.ticks ≡ ticks_of panel.scale
   pub lines_are : panel.lines ≡ map (line_of (server_of p) shape r panel.title panel.scale) (quantities_of p.buffer shape panel.title)
 
 abbrev pub title_of : Panel → Title
@@ -66,5 +67,7 @@ title_of panel = panel.title
 pub record IsPicture (p : Path) (shape : Shape) (r : Run) (picture : Picture) : Type 0 where
   pub shape_is : picture.shape ≡ shape
   pub path_is : picture.path ≡ p
+  pub columns_are : picture.columns ≡ map (across_of (last_row shape)) (range_with_len 0 (last_row shape + 1))
+  pub opening_is : picture.opening ≡ across_of (last_row shape) shape.h
   pub titles_are : map title_of picture.panels ≡ titles_of shape
   pub panels_are : All (IsPanel p shape r) picture.panels

@@ -1,5 +1,5 @@
--- Where a point stands in its panel: in hundredths of a pixel from the panel's lower left corner, rounded down.
-use Rattle.std.specs.Prelude.{◌≡◌, ℕ, ◌+◌, ◌-◌, ◌*◌, ◌/◌, ◌≤◌, ℤ, pos, ◌+ℤ◌, ◌*ℤ◌, ◌≤ℤ◌, unsigned_abs, List, map}
+-- Where a point stands in its panel: in thousandths of a pica from the panel's lower left corner, rounded down.
+use Rattle.std.specs.Prelude.{◌≡◌, ℕ, ◌+◌, ◌-◌, ◌*◌, ◌/◌, ◌≤◌, ℤ, pos, ◌+ℤ◌, ◌-ℤ◌, ◌*ℤ◌, unsigned_abs, List, map}
 use Rattle.std.specs.List.{range_with_len}
 use Rattle.run_rows.specs.declared.rows.Run.{Run}
 use Rattle.path_server.specs.Servers.{Server}
@@ -7,13 +7,14 @@ use Rattle.trace_picture.specs.Measures.{measured}
 use Rattle.trace_picture.specs.declared.lines.Quantity.{Quantity}
 use Rattle.trace_picture.specs.declared.places.Point.{Point}
 use Rattle.trace_picture.specs.declared.scales.Scale.{Scale}
+use Rattle.trace_picture.specs.declared.scales.Tick.{Tick}
 
 -- the width and the height of a panel
 abbrev pub width : ℕ
-width = 50000
+width = 31000
 
 abbrev pub height : ℕ
-height = 12000
+height = 6700
 
 -- the rows divide the width evenly
 abbrev pub across_of : ℕ → ℕ → ℕ
@@ -33,12 +34,16 @@ up_of s amount = (unsigned_abs (above_edge s amount) * height) / range_of s
 
 -- the amount isn't below the panel's lower edge, nor above its upper edge
 pub record Shows (s : Scale) (amount : ℤ) : Type 0 where
-  pub from : pos 0 ≤ℤ above_edge s amount
+  pub part : ℕ
+  pub from : above_edge s amount ≡ pos part
   pub to : up_of s amount ≤ height
 
--- the tick with this number, from the lower edge on
-abbrev pub tick_up : Scale → ℕ → ℕ
-tick_up s n = (n * height) / (s.below + s.above)
+-- the tick with this number, from the lower edge on, and its amount in thousandths of a unit of data
+abbrev pub tick_of : Scale → ℕ → Tick
+tick_of s n = record { up = (n * height) / (s.below + s.above); amount = (pos n -ℤ pos s.below) *ℤ pos s.step }
+
+abbrev pub ticks_of : Scale → List Tick
+ticks_of s = map (tick_of s) (range_with_len 0 (s.below + s.above + 1))
 
 abbrev pub point_of : Server → Run → Quantity → Scale → ℕ → ℕ → Point
 point_of p r q s last row = record { across = across_of last row; up = up_of s (measured p r q row) }

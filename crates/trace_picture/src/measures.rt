@@ -1,5 +1,5 @@
 // The value of a quantity on a row, in units of 1 / (over * unit), in which the path's numbers are whole.
-ghost use Rattle.std.specs.Prelude.{◌≡◌, ◌<◌, ◌≤◌, pos, ◌-ℤ◌, ◌*ℤ◌, IfOk, MatchOption, length};
+ghost use Rattle.std.specs.Prelude.{◌≡◌, ◌<◌, ◌-◌, pos, ◌-ℤ◌, ◌*ℤ◌, IfOk, MatchOption, length};
 ghost use Rattle.run_rows.specs.Runs.{IsRun, arrived, flow_count, flow_of, lost, no_flow, over_flows, served, state_of, waste};
 ghost use Rattle.path_server.specs.Limits.{IsPath};
 ghost use Rattle.path_server.specs.Rules.{all_accepted, allowed, buffer_den, rate, unit};
@@ -52,10 +52,7 @@ pub(crate) fn measure(
         Quantity::Least => Ok(allowed(path, run, row, path.jitter)?.max(0)),
         Quantity::AllAccepted => product(unit, all_accepted(run, row)?),
         Quantity::AllServed => product(unit, total(run, row, Entry::Served)?),
-        Quantity::Backlog => difference(
-            product(unit, all_accepted(run, row)?)?,
-            allowed(path, run, row, 0)?,
-        ),
+        Quantity::Backlog => backlog(path, run, row),
         Quantity::Buffer => room(path, run),
     }
 }
@@ -138,16 +135,59 @@ fn all_accepted(run: &Run, row: u32) -> Result<i128, DrawFault>
     )
 }
 
+/// The path's rate, in its unit.
+fn rate_of(path: &Path) -> Result<i128, DrawFault>
+    ensures { IfOk result (λ z. z ≡ rate (server_of path.now)) }
+{
+    product(path.rate.num, denominator(path))
+}
+
+/// How many rows there are from `back` to `row`.
+fn rows_between(row: u32, back: u32) -> i128
+    ensures { result ≡ pos row -ℤ pos back }
+{
+    i128::from(row) - i128::from(back)
+}
+
+/// What the rate serves from `back` to `row`.
+fn at_rate(path: &Path, run: &Run, row: u32, back: u32) -> Result<i128, DrawFault>
+    ensures { IfOk result (λ z. z ≡ (rate (server_of path.now) *ℤ (pos row -ℤ pos back)) *ℤ run.now.over) }
+{
+    product(product(rate_of(path)?, rows_between(row, back))?, run.over)
+}
+
+/// The credit that wasn't wasted `back` rows before `row`.
+fn credit_left(run: &Run, row: u32, back: u32) -> Result<i128, DrawFault>
+    requires row_in { row < length run.now.rows }
+    ensures { IfOk result (λ z. z ≡ run.now.credit -ℤ waste run.now (row - back)) }
+{
+    difference(run.credit, run.waste(row.saturating_sub(back)))
+}
+
+/// The same in the path's unit.
+fn left_over(path: &Path, run: &Run, row: u32, back: u32) -> Result<i128, DrawFault>
+    requires row_in { row < length run.now.rows }
+    ensures { IfOk result (λ z. z ≡ unit (server_of path.now) *ℤ (run.now.credit -ℤ waste run.now (row - back))) }
+{
+    product(unit_of(path)?, credit_left(run, row, back)?)
+}
+
 /// The most that may have been served `back` rows before `row`.
 fn allowed(path: &Path, run: &Run, row: u32, back: u32) -> Result<i128, DrawFault>
     requires row_in { row < length run.now.rows }
     ensures { IfOk result (λ z. z ≡ allowed (server_of path.now) run.now row back) }
 {
-    let rate = product(path.rate.num, denominator(path))?;
-    let rows = i128::from(row) - i128::from(back);
-    let served = product(product(rate, rows)?, run.over)?;
-    let kept = difference(run.credit, run.waste(row.saturating_sub(back)))?;
-    sum(served, product(unit_of(path)?, kept)?)
+    sum(at_rate(path, run, row, back)?, left_over(path, run, row, back)?)
+}
+
+/// What was accepted beyond the most that may have been served.
+fn backlog(path: &Path, run: &Run, row: u32) -> Result<i128, DrawFault>
+    requires run_in { IsRun run.now }
+    requires row_in { row < length run.now.rows }
+    ensures { IfOk result (λ z. z ≡ unit (server_of path.now) *ℤ all_accepted run.now row -ℤ allowed (server_of path.now) run.now row 0) }
+{
+    let accepted = product(unit_of(path)?, all_accepted(run, row)?)?;
+    difference(accepted, allowed(path, run, row, 0)?)
 }
 
 /// The buffer's size, 0 where there is none.

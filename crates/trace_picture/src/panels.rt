@@ -11,8 +11,8 @@ ghost use Rattle.std.specs.List.{range_with_len};
 use crate::exact::{DrawFault, product};
 use crate::lines::{Quantity, Title};
 use crate::measures::unit_of;
-use crate::places::{Point, Rows, points_of, span_of};
-use crate::scales::{Scale, Span};
+use crate::places::{Point, Rows, across, columns, points_of, span_of};
+use crate::scales::{Scale, Span, Tick, ticks_of};
 use path_server::Path;
 use run_rows::{Run, Shape};
 use sqlite_items::Items;
@@ -30,6 +30,7 @@ pub struct Line {
 pub struct Panel {
     pub title: Title,
     pub scale: Scale,
+    pub ticks: Items<Tick>,
     pub lines: Items<Line>,
 }
 
@@ -38,6 +39,10 @@ pub struct Panel {
 pub struct Picture {
     pub shape: Shape,
     pub path: Path,
+    /// How far to the right each row stands, in thousandths of a pica.
+    pub columns: Items<u32>,
+    /// How far to the right the opening row stands.
+    pub opening: u32,
     pub panels: Items<Panel>,
 }
 
@@ -53,6 +58,8 @@ pub fn draw(
     requires fits { Fits shape.now run.now }
     ensures { IfOk result (λ drawn. IsPicture path.now shape.now run.now drawn) }
 {
+    let last = shape.h + shape.t;
+    let columns = columns(alloc, last)?;
     let titles = titles(alloc, shape)?;
     let mut panels = Items::new(alloc);
     for title in titles.as_slice() {
@@ -62,6 +69,8 @@ pub fn draw(
     Ok(Picture {
         shape: *shape,
         path: *path,
+        columns,
+        opening: across(shape.h, last),
         panels,
     })
 }
@@ -122,6 +131,7 @@ fn panel_of(
     Ok(Panel {
         title,
         scale,
+        ticks: ticks_of(alloc, &scale)?,
         lines,
     })
 }

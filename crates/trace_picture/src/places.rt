@@ -1,5 +1,6 @@
 // The points of a line.
-ghost use Rattle.std.specs.Prelude.{◌≡◌, ◌+◌, ◌<◌, ◌≤◌, IfOk, length};
+ghost use Rattle.std.specs.Prelude.{◌≡◌, ◌+◌, ◌<◌, ◌≤◌, IfOk, length, map};
+ghost use Rattle.std.specs.List.{range_with_len};
 ghost use Rattle.run_rows.specs.Runs.{IsRun};
 ghost use Rattle.path_server.specs.Limits.{IsPath};
 ghost use Rattle.path_server.specs.Servers.{server_of};
@@ -12,12 +13,12 @@ use crate::scales::{Scale, Span};
 use path_server::Path;
 use run_rows::Run;
 use sqlite_items::Items;
-use std::alloc::Global;
+use std::alloc::{AllocError, Global};
 
-/// The width of a panel, in hundredths of a pixel.
-const WIDTH: u32 = 50_000;
+/// The width of a panel, in thousandths of a pica.
+const WIDTH: u32 = 31_000;
 
-/// A place in a panel, from its lower left corner, in hundredths of a pixel.
+/// A place in a panel, from its lower left corner, in thousandths of a pica.
 #[derive(Clone, Copy, Debug, PartialEq, Eq)]
 pub struct Point {
     pub across: u32,
@@ -39,6 +40,19 @@ pub(crate) fn across(row: u32, last: u32) -> u32
     ensures { result ≡ across_of last row }
 {
     row * WIDTH / last
+}
+
+/// How far to the right each row of the run stands.
+pub(crate) fn columns(alloc: Global, last: u32) -> Result<Items<u32>, AllocError>
+    requires from { 1 ≤ last }
+    requires to { last < 63 }
+    ensures { IfOk result (λ columns. columns ≡ map (across_of last) (range_with_len 0 (last + 1))) }
+{
+    let mut columns = Items::new(alloc);
+    for row in 0..last + 1 {
+        columns.push(across(row, last))?;
+    }
+    Ok(columns)
 }
 
 /// The span with the quantity's amounts on the rows.

@@ -1,10 +1,14 @@
 // How high an amount stands in its panel.
 ghost use Rattle.std.specs.Prelude.{◌≡◌, ◌+◌, ◌≤◌, pos, ◌*ℤ◌, IfOk, IfSome, OnOk};
 
-use crate::exact::{DrawFault, product, sum};
+ghost use Rattle.trace_picture.specs.Places.{tick_of, ticks_of};
 
-/// The height of a panel, in hundredths of a pixel.
-const HEIGHT: u128 = 12_000;
+use crate::exact::{DrawFault, product, sum};
+use sqlite_items::Items;
+use std::alloc::{AllocError, Global};
+
+/// The height of a panel, in thousandths of a pica.
+const HEIGHT: u128 = 6_700;
 
 /// The range of a panel: so many steps below nothing and above it.
 #[derive(Clone, Copy, Debug)]
@@ -17,6 +21,15 @@ pub struct Scale {
     pub below: u32,
     /// How many steps there are above nothing, at least 1.
     pub above: u32,
+}
+
+/// A tick of the axis of amounts.
+#[derive(Clone, Copy, Debug, PartialEq, Eq)]
+pub struct Tick {
+    /// Above the panel's lower edge, in thousandths of a pica.
+    pub up: u32,
+    /// In thousandths of a unit of data.
+    pub amount: i128,
 }
 
 /// The least amount, which is 0 or below, and the greatest, which is 0 or above.
@@ -36,7 +49,7 @@ impl Span {
 }
 
 impl Scale {
-    ghost use Rattle.trace_picture.specs.Places.{Shows, tick_up, up_of};
+    ghost use Rattle.trace_picture.specs.Places.{Shows, above_edge, range_of, up_of};
 
     /// The scale with the least step for which five steps or fewer hold the span. `thousandth` is a thousandth of a unit of
     /// data, in thousandths of the amounts' unit.
@@ -80,24 +93,71 @@ impl Scale {
         }))
     }
 
-    /// How high the amount stands above the panel's lower edge, in hundredths of a pixel, rounded down.
+    /// How high the amount stands above the panel's lower edge, in thousandths of a pica, rounded down.
     pub(crate) fn up(&self, amount: i128) -> Result<u128, DrawFault>
         ensures exact { IfOk result (λ up. up ≡ up_of self.now amount) }
         ensures within { OnOk result (Shows self.now amount) }
     {
-        let low = product(i128::from(self.below), self.width)?;
-        let above = sum(product(1000, amount)?, low)?;
-        let steps = u128::from(self.below) + u128::from(self.above);
-        let scaled = above.unsigned_abs().checked_mul(HEIGHT);
-        let range = steps.checked_mul(self.width.unsigned_abs());
-        let (Some(scaled), Some(range)) = (scaled, range) else {
+        let above = self.above_edge(amount)?;
+        let (Some(scaled), Some(range)) = (above.checked_mul(HEIGHT), self.range()) else {
             return Err(DrawFault::Wide);
         };
-        if above < 0 || range == 0 || scaled / range > HEIGHT {
+        if range == 0 || scaled / range > HEIGHT {
             return Err(DrawFault::Wide);
         }
         Ok(scaled / range)
     }
+
+    /// What the amount is above the panel's lower edge.
+    fn above_edge(&self, amount: i128) -> Result<u128, DrawFault>
+        ensures { IfOk result (λ part. above_edge self.now amount ≡ pos part) }
+    {
+        let low = product(i128::from(self.below), self.width)?;
+        natural(sum(product(1000, amount)?, low)?)
+    }
+
+    /// What the panel shows from its lower edge to its upper edge.
+    fn range(&self) -> Option<u128>
+        ensures { IfSome result (λ range. range ≡ range_of self.now) }
+    {
+        let steps = u128::from(self.below) + u128::from(self.above);
+        steps.checked_mul(self.width.unsigned_abs())
+    }
+}
+
+/// The ticks from the panel's lower edge to its upper edge.
+pub(crate) fn ticks_of(alloc: Global, scale: &Scale) -> Result<Items<Tick>, AllocError>
+    requires some { 1 ≤ scale.now.above }
+    requires few { scale.now.below + scale.now.above ≤ 5 }
+    ensures { IfOk result (λ ticks. ticks ≡ ticks_of scale.now) }
+{
+    let mut ticks = Items::new(alloc);
+    for number in 0..scale.below + scale.above + 1 {
+        ticks.push(tick_of(scale, number))?;
+    }
+    Ok(ticks)
+}
+
+fn tick_of(scale: &Scale, number: u32) -> Tick
+    requires some { 1 ≤ scale.now.above }
+    requires few { scale.now.below + scale.now.above ≤ 5 }
+    requires number_in { number ≤ 5 }
+    ensures { result ≡ tick_of scale.now number }
+{
+    Tick {
+        up: number * 6_700 / (scale.below + scale.above),
+        amount: (i128::from(number) - i128::from(scale.below)) * i128::from(scale.step),
+    }
+}
+
+/// The number, if it isn't below 0.
+fn natural(number: i128) -> Result<u128, DrawFault>
+    ensures { IfOk result (λ n. number ≡ pos n) }
+{
+    if number < 0 {
+        return Err(DrawFault::Wide);
+    }
+    Ok(number.unsigned_abs())
 }
 
 /// How many steps of this width hold the size of the amount, if five do.

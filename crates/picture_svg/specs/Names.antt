@@ -1,9 +1,10 @@
--- The text of a picture as an SVG document.
+-- The names of the lines' styles, which no colour tells apart, and what the legends say.
 use Rattle.std.specs.Prelude.{ℕ, ◌==◌, if◌then◌else◌, List, codes}
 use Rattle.trace_picture.specs.declared.lines.Quantity.{Quantity}
 use Rattle.trace_picture.specs.declared.lines.Quantity.TheVariants.{Sent, Accepted, Served, Lost, Waiting, State, Most, Least, AllAccepted, AllServed, Backlog, Buffer}
 
--- ---- the styles and the legend, which no colour tells apart
+use Rattle.trace_picture.specs.declared.lines.Title.{Title}
+use Rattle.trace_picture.specs.declared.lines.Title.TheVariants.{OfState}
 
 abbrev pub flow_style : ℕ → List ℕ
 flow_style f = if f == 1 then codes "flow1" else if f == 2 then codes "flow2" else if f == 3 then codes "flow3" else codes "flow4"
@@ -38,3 +39,8 @@ label_of AllAccepted = codes "accepted, all flows"
 label_of AllServed = codes "served, all flows"
 label_of Backlog = codes "beyond most allowed"
 label_of Buffer = codes "buffer"
+
+-- a state is an amount of data or a count, which a trace doesn't say
+abbrev pub unit_of : Title → List ℕ
+unit_of (OfState j) = codes "value"
+unit_of _ = codes "units of data"
