@@ -1,37 +1,42 @@
-//! Draws a trace.
+//! Draws a run: reads a question and a trace, and writes one SVG document.
+//!
+//! `draw_trace QUEST TRACE` puts it with 0: over the rows, what was sent, accepted, served and lost of each flow, the band that
+//! the path's rules allow the service, the queue, and each state. A trace may begin with a verdict's line, as `ccac check` puts
+//! it. A file that is refused is reported as `ccac admit` reports it, with 3, and so is a run whose numbers are too wide to be
+//! drawn; words of another form are 4, a file that can't be read 5, an output that fails 6, want of memory 7, and a word that
+//! isn't text 8.
 #![tactic(auto)]
 
-use ccac_ports::{Folder, RealFolder, RealSink, Sink};
-use path_server::{Path, Setting};
-use question_syntax::read_setting;
-use run_rows::{Run, Shape};
+mod answering;
+mod fetching;
+mod reports;
+mod requests;
+mod running;
+mod saved;
+
+use crate::running::run;
+use ccac_ports::{RealFolder, RealSink};
 use std::process::ExitCode;
 use std::{env, io};
-use picture_svg::svg;
-use trace_picture::draw;
-use trace_text::read_trace;
+
+/// Memory for the words wasn't found.
+const NO_MEMORY: u8 = 7;
+/// A word isn't text.
+const NO_TEXT: u8 = 8;
 
 fn main(rt: HostRuntime) -> ExitCode {
     let args = match env::args(&rt) {
         Ok(args) => args,
-        Err(_) => return ExitCode::from(7),
+        Err(fault) if fault.kind() == io::ErrorKind::InvalidData => return ExitCode::from(NO_TEXT),
+        Err(_) => return ExitCode::from(NO_MEMORY),
     };
     let mut words = Vec::new(rt.alloc());
     for word in args.skip(1) {
         if words.push(word).is_err() {
-            return ExitCode::from(7);
+            return ExitCode::from(NO_MEMORY);
         }
     }
     let mut folder = RealFolder::new(&rt, rt.alloc());
     let mut out = RealSink::new(&rt);
-    let Ok(question) = folder.fetch(words[0].as_str(), 1000000) else { return ExitCode::from(5); };
-    let Ok(trace) = folder.fetch(words[1].as_str(), 1000000) else { return ExitCode::from(5); };
-    let Ok(setting) = read_setting(rt.alloc(), question.as_slice()) else { return ExitCode::from(3); };
-    let trace = trace.as_slice();
-    let trace = if trace.len() > 9 && trace[0] == b'v' { &trace[9..] } else { trace };
-    let Ok((shape, run)) = read_trace(rt.alloc(), trace) else { return ExitCode::from(3); };
-    let Ok(pic) = draw(rt.alloc(), &setting.path, &shape, &run) else { return ExitCode::from(2); };
-    let Ok(text) = svg(rt.alloc(), &pic) else { return ExitCode::from(7); };
-    if out.put(text.as_slice()).is_err() { return ExitCode::from(6); }
-    ExitCode::from(0)
+    ExitCode::from(run(rt.alloc(), words.as_slice(), &mut folder, &mut out))
 }

@@ -27,9 +27,9 @@ path_text p = pair_text p.rate ++ ((codes ", jitter " ++ (decimal p.jitter ++ co
 
 unfoldable pub head_text : Picture → List ℕ
 head_text p =
-    (codes "<text class='head' x='4000' y='1400'>flows " ++ (decimal p.shape.flows ++ codes ", rate "))
+    (codes "<text class='head' x='4000' y='1100'>flows " ++ (decimal p.shape.flows ++ codes ", rate "))
     ++ (path_text p.path ++ ((codes "</text>" ++ (10 ∷ []))
-    ++ (codes "<text x='4000' y='2500'>amounts since row 0; the dotted upright is the opening row, row "
+    ++ (codes "<text x='4000' y='2100'>amounts since row 0; the dotted upright is the opening row, row "
     ++ (decimal p.shape.h ++ (codes "</text>" ++ (10 ∷ []))))))
 
 unfoldable pub document_text : Picture → List ℕ

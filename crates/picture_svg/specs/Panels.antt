@@ -19,7 +19,7 @@ abbrev pub name_text : Title → List ℕ
 name_text OfPath = codes "path: served by each row, and the band that its rules allow"
 name_text (OfFlow f) = codes "flow " ++ (decimal f ++ codes ": by each row")
 name_text OfQueue = codes "queue: accepted and not yet served"
-name_text (OfState j) = codes "state " ++ (decimal j ++ codes " of each flow, counted from 0")
+name_text (OfState j) = codes "state " ++ (decimal j ++ codes ", where 0 is the controller's first")
 
 unfoldable pub title_text : Title → List ℕ
 title_text t =

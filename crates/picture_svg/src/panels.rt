@@ -47,7 +47,7 @@ fn put_name(out: &mut String, title: Title) -> Result<(), AllocError>
         Title::OfPath => out.push_str("path: served by each row, and the band that its rules allow"),
         Title::OfFlow(flow) => write!(out, "flow {}: by each row", flow),
         Title::OfQueue => out.push_str("queue: accepted and not yet served"),
-        Title::OfState(state) => write!(out, "state {} of each flow, counted from 0", state),
+        Title::OfState(state) => write!(out, "state {}, where 0 is the controller's first", state),
     }
 }
 
