@@ -17,14 +17,17 @@ use Rattle.draw_trace.specs.Reports.{Answer, refused, too_wide}
 use Rattle.draw_trace.specs.Saved.{behind_verdict}
 use Rattle.draw_trace.specs.declared.reports.Source.TheVariants.{Question, Trace}
 
+-- the answer to a run: its picture, or that its numbers are too wide
+pub data RunAnswers (s : Setting) (shape : Shape) (r : Run) (a : Answer) : Type 0 where
+  drawn : (picture : Picture) → IsPicture s.path shape r picture → a ≡ record { status = 0; text = document_text picture } → RunAnswers s shape r a
+  wide : a ≡ too_wide → RunAnswers s shape r a
+
 -- the answer to a trace, on the path of a setting
-pub data TraceAnswers (s : Setting) (bytes : List ℕ) : Answer → Type 0 where
-  trace_refused : (r : Refusal) → trace.IsRefused (behind_verdict bytes) r → TraceAnswers s bytes (refused Trace r)
-  wide : (shape : Shape) (r : Run) → IsTraceText (behind_verdict bytes) shape r → TraceAnswers s bytes too_wide
-  drawn : (shape : Shape) (r : Run) (picture : Picture) → IsTraceText (behind_verdict bytes) shape r → IsPicture s.path shape r picture
-      → TraceAnswers s bytes (record { status = 0; text = document_text picture })
+pub data TraceAnswers (s : Setting) (bytes : List ℕ) (a : Answer) : Type 0 where
+  trace_refused : (r : Refusal) → trace.IsRefused (behind_verdict bytes) r → a ≡ refused Trace r → TraceAnswers s bytes a
+  read : (shape : Shape) (r : Run) → IsTraceText (behind_verdict bytes) shape r → RunAnswers s shape r a → TraceAnswers s bytes a
 
 -- the answer to these bytes: the question is read first
-pub data Answers (bytes run : List ℕ) : Answer → Type 0 where
-  question_refused : (r : Refusal) → question.IsRefused bytes r → Answers bytes run (refused Question r)
-  question_read : (s : Sections) (a : Answer) → IsText bytes s → TraceAnswers s.setting run a → Answers bytes run a
+pub data Answers (bytes run : List ℕ) (a : Answer) : Type 0 where
+  question_refused : (r : Refusal) → question.IsRefused bytes r → a ≡ refused Question r → Answers bytes run a
+  question_read : (s : Sections) → IsText bytes s → TraceAnswers s.setting run a → Answers bytes run a

@@ -1,6 +1,8 @@
 ghost use Rattle.std.specs.Prelude.{◌<◌, ◌-◌, ◌^◌, length, IfOk};
-ghost use Rattle.path_server.specs.Limits.{IsSetting};
-ghost use Rattle.draw_trace.specs.Drawing.{Answers, TraceAnswers};
+ghost use Rattle.path_server.specs.Limits.{IsPath, IsSetting};
+ghost use Rattle.run_rows.specs.Limits.{IsWithin};
+ghost use Rattle.run_rows.specs.Runs.{Fits};
+ghost use Rattle.draw_trace.specs.Drawing.{Answers, RunAnswers, TraceAnswers};
 ghost use Rattle.draw_trace.specs.Shown.{shown};
 
 use crate::reports::{Report, Source};
@@ -41,12 +43,12 @@ fn on_setting(alloc: Global, setting: &Setting, trace: &[u8]) -> Result<Report, 
 }
 
 /// The picture of the run, or that its numbers are too wide.
-fn drawn(
-    alloc: Global,
-    setting: &Setting,
-    shape: &Shape,
-    run: &Run,
-) -> Result<Report, NoMemory> {
+fn drawn(alloc: Global, setting: &Setting, shape: &Shape, run: &Run) -> Result<Report, NoMemory>
+    requires path_in { IsPath setting.now.path }
+    requires within { IsWithin shape.now }
+    requires fits { Fits shape.now run.now }
+    ensures { IfOk result (λ report. RunAnswers setting.now shape.now run.now (shown report)) }
+{
     match draw(alloc, &setting.path, shape, run) {
         Ok(picture) => Ok(Report {
             status: 0,

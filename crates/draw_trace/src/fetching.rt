@@ -46,10 +46,7 @@ pub(crate) fn fetch_both<F: Folder>(
 {
     let question = fetch(alloc, folder, Source::Question, question)?;
     let trace = fetch(alloc, folder, Source::Trace, trace)?;
-    Ok(Texts {
-        question,
-        trace,
-    })
+    Ok(Texts { question, trace })
 }
 
 /// The bytes of a file, or the report that says why there are none.

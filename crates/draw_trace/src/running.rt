@@ -47,11 +47,7 @@ fn carried_out<F: Folder>(
     ensures { IfOk result (λ report. Settles (F.tells folder.old) (F.tells folder.new) (ordered request.entry) (shown report)) }
 {
     match fetch_both(alloc, folder, request.question, request.trace) {
-        Ok(texts) => answer(
-            alloc,
-            texts.question.as_slice(),
-            texts.trace.as_slice(),
-        ),
+        Ok(texts) => answer(alloc, texts.question.as_slice(), texts.trace.as_slice()),
         Err(Halt::Report(report)) => Ok(report),
         Err(Halt::NoMemory) => Err(NoMemory),
     }

@@ -35,7 +35,6 @@ pub numbered_is_done : {X : Type 0} (lines : ℕ → X → List ℕ) (xs : List 
 unfolding numbered
 numbered_is_done lines xs i old now all le left = is_done old now (numbered lines i (drop i xs)) all left (rw (drop_of_length-le xs le) refl)
 
-
 -- the same of an item that the code borrows
 pub listed_item : {X : Type 0} (item : X → List ℕ) (x : X) (xs : List X) (i : ℕ) (old now new all : List ℕ) → i < length xs → x ≡ get_or xs i x
     → now ++ listed item (drop i xs) ≡ old ++ all → new ≡ now ++ item x → new ++ listed item (drop (i + 1) xs) ≡ old ++ all

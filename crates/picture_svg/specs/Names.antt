@@ -2,7 +2,6 @@
 use Rattle.std.specs.Prelude.{ℕ, ◌==◌, if◌then◌else◌, List, codes}
 use Rattle.trace_picture.specs.declared.lines.Quantity.{Quantity}
 use Rattle.trace_picture.specs.declared.lines.Quantity.TheVariants.{Sent, Accepted, Served, Lost, Waiting, State, Most, Least, AllAccepted, AllServed, Backlog, Buffer}
-
 use Rattle.trace_picture.specs.declared.lines.Title.{Title}
 use Rattle.trace_picture.specs.declared.lines.Title.TheVariants.{OfState}
 

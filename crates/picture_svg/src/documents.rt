@@ -42,10 +42,18 @@ fn put_opening(out: &mut String, panels: usize) -> Result<(), AllocError>
 fn put_head(out: &mut String, picture: &Picture) -> Result<(), AllocError>
     ensures { OnOk result (string_bytes out.new ≡ string_bytes out.old ++ head_text picture.now) }
 {
-    write!(out, "<text class='head' x='4000' y='1100'>flows {}, rate ", picture.shape.flows)?;
+    write!(
+        out,
+        "<text class='head' x='4000' y='1100'>flows {}, rate ",
+        picture.shape.flows
+    )?;
     put_path(out, &picture.path)?;
     out.push_str("</text>\n")?;
-    write!(out, "<text x='4000' y='2100'>amounts since row 0; the dotted upright is the opening row, row {}</text>\n", picture.shape.h)
+    write!(
+        out,
+        "<text x='4000' y='2100'>amounts since row 0; the dotted upright is the opening row, row {}</text>\n",
+        picture.shape.h
+    )
 }
 
 fn put_path(out: &mut String, path: &Path) -> Result<(), AllocError>

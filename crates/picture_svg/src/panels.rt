@@ -20,7 +20,11 @@ pub(crate) fn put_panel(
 ) -> Result<(), AllocError>
     ensures { OnOk result (string_bytes out.new ≡ string_bytes out.old ++ panel_text picture.now number panel.now) }
 {
-    write!(out, "<g transform='translate(4000 {}0000) translate(0 10700)'>\n", number)?;
+    write!(
+        out,
+        "<g transform='translate(4000 {}0000) translate(0 10700)'>\n",
+        number
+    )?;
     put_title(out, panel.title)?;
     put_areas(out, panel.lines.as_slice())?;
     put_axes(out, picture, panel)?;
@@ -35,7 +39,9 @@ fn put_title(out: &mut String, title: Title) -> Result<(), AllocError>
 {
     out.push_str("<text class='title' y='-7050'>")?;
     put_name(out, title)?;
-    out.push_str("</text>\n<text text-anchor='middle' transform='translate(-3000 -3350) rotate(-90)'>")?;
+    out.push_str(
+        "</text>\n<text text-anchor='middle' transform='translate(-3000 -3350) rotate(-90)'>",
+    )?;
     out.push_str(unit_of(title))?;
     out.push_str("</text>\n")
 }
@@ -44,7 +50,9 @@ fn put_name(out: &mut String, title: Title) -> Result<(), AllocError>
     ensures { OnOk result (string_bytes out.new ≡ string_bytes out.old ++ name_text title) }
 {
     match title {
-        Title::OfPath => out.push_str("path: served by each row, and the band that its rules allow"),
+        Title::OfPath => out.push_str(
+            "path: served by each row, and the band that its rules allow",
+        ),
         Title::OfFlow(flow) => write!(out, "flow {}: by each row", flow),
         Title::OfQueue => out.push_str("queue: accepted and not yet served"),
         Title::OfState(state) => write!(out, "state {}, where 0 is the controller's first", state),
@@ -95,7 +103,11 @@ fn put_tick(out: &mut String, tick: Tick) -> Result<(), AllocError>
     ensures { OnOk result (string_bytes out.new ≡ string_bytes out.old ++ tick_text tick) }
 {
     put_grid(out, if tick.amount == 0 { "zero" } else { "grid" }, tick.up)?;
-    write!(out, "<text text-anchor='end' dy='230' x='-400' y='-{}'>", tick.up)?;
+    write!(
+        out,
+        "<text text-anchor='end' dy='230' x='-400' y='-{}'>",
+        tick.up
+    )?;
     put_thousandths(out, tick.amount)?;
     out.push_str("</text>\n")
 }
@@ -153,5 +165,10 @@ fn put_samples(out: &mut String, lines: &[Line]) -> Result<(), AllocError>
 fn put_sample_of(out: &mut String, number: usize, line: &Line) -> Result<(), AllocError>
     ensures { OnOk result (string_bytes out.new ≡ string_bytes out.old ++ sample_of number line.now) }
 {
-    put_sample(out, number, style_of(line.quantity), label_of(line.quantity))
+    put_sample(
+        out,
+        number,
+        style_of(line.quantity),
+        label_of(line.quantity),
+    )
 }

@@ -95,7 +95,11 @@ pub(crate) fn put_column(out: &mut String, row: usize, across: u32) -> Result<()
     ensures { OnOk result (string_bytes out.new ≡ string_bytes out.old ++ column_text row across) }
 {
     write!(out, "<path class='axis' d='M{},0v250'/>\n", across)?;
-    write!(out, "<text text-anchor='middle' x='{}' y='900'>{}</text>\n", across, row)
+    write!(
+        out,
+        "<text text-anchor='middle' x='{}' y='900'>{}</text>\n",
+        across, row
+    )
 }
 
 /// The line of a legend with this number.
@@ -109,6 +113,10 @@ pub(crate) fn put_sample(
     ensures { OnOk result (string_bytes out.new ≡ string_bytes out.old ++ sample_text number style.now label.now) }
 {
     write!(out, "<g transform='translate(32200 {}000)'>", number)?;
-    write!(out, "<polyline class='{}' points='0,0 1250,0 2500,0'/>", style)?;
+    write!(
+        out,
+        "<polyline class='{}' points='0,0 1250,0 2500,0'/>",
+        style
+    )?;
     write!(out, "<text dy='230' x='3000'>{}</text></g>\n", label)
 }

@@ -38,7 +38,7 @@ marker path, marker circle { stroke-width: 1.3; }
 .flow3 { stroke-dasharray: 90 190; marker: url(#wedge); }
 .flow4 { stroke-dasharray: 560 190 90 190; marker: url(#cross); }
 .backlog { stroke-width: 60; stroke-dasharray: 190 120; marker: url(#ring); }
-.limit { stroke: #777; stroke-width: 130; stroke-dasharray: 870 310; }
+.limit { stroke: #555; stroke-width: 180; stroke-dasharray: 870 310; }
 </style>
 <rect class='blank' width='100%' height='100%'/>
 ";

@@ -9,8 +9,7 @@ pub made_goes_on : {X : Type 0} (f : ℕ → X) (a n j : ℕ) (old new : List X)
 made_goes_on f a n j old new x at before pushed is =
     pushed ∙ ap (λ xs. xs ++ x ∷ []) before ∙ ap (λ y. map f (range_with_len a n) ++ y ∷ []) is ∙ sym (map-range_with_len_more f a n j at)
 
-pub mapped_goes_on : {X Y : Type 0} (f : X → Y) (xs : List X) (i : ℕ) (d : X) (old new : List Y) (y : Y) → i < length xs → old ≡ map f (take i xs)
-    → new ≡ old ++ y ∷ [] → y ≡ f (get_or xs i d) → new ≡ map f (take (i + 1) xs)
-mapped_goes_on f xs i d old new y lt before pushed is =
-    pushed ∙ ap (λ ys. ys ++ y ∷ []) before ∙ ap (λ z. map f (take i xs) ++ z ∷ []) is
-    ∙ sym (ap (map f) (take_more xs i d lt) ∙ map-append f (take i xs) (get_or xs i d ∷ []))
+pub named_goes_on : {X Y : Type 0} (f : Y → X) (xs : List X) (i : ℕ) (d : X) (old new : List Y) (y : Y) → i < length xs → map f old ≡ take i xs
+    → new ≡ old ++ y ∷ [] → f y ≡ get_or xs i d → map f new ≡ take (i + 1) xs
+named_goes_on f xs i d old new y lt before pushed is =
+    ap (map f) pushed ∙ map-append f old (y ∷ []) ∙ ap (λ ys. ys ++ f y ∷ []) before ∙ ap (λ x. take i xs ++ x ∷ []) is ∙ sym (take_more xs i d lt)

@@ -12,7 +12,7 @@ mod places;
 mod scales;
 
 pub use exact::DrawFault;
+pub use lines::{Quantity, Title};
 pub use panels::{Line, Panel, Picture, draw};
 pub use places::Point;
-pub use lines::{Quantity, Title};
 pub use scales::{Scale, Tick};

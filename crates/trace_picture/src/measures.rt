@@ -177,7 +177,10 @@ fn allowed(path: &Path, run: &Run, row: u32, back: u32) -> Result<i128, DrawFaul
     requires row_in { row < length run.now.rows }
     ensures { IfOk result (λ z. z ≡ allowed (server_of path.now) run.now row back) }
 {
-    sum(at_rate(path, run, row, back)?, left_over(path, run, row, back)?)
+    sum(
+        at_rate(path, run, row, back)?,
+        left_over(path, run, row, back)?,
+    )
 }
 
 /// What was accepted beyond the most that may have been served.

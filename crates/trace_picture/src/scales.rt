@@ -1,6 +1,5 @@
 // How high an amount stands in its panel.
 ghost use Rattle.std.specs.Prelude.{◌≡◌, ◌+◌, ◌≤◌, pos, ◌*ℤ◌, IfOk, IfSome, OnOk};
-
 ghost use Rattle.trace_picture.specs.Places.{tick_of, ticks_of};
 
 use crate::exact::{DrawFault, product, sum};
@@ -78,7 +77,8 @@ impl Scale {
         ensures few { IfOk result (λ found. IfSome found (λ s. s.below + s.above ≤ 5)) }
     {
         let width = product(i128::from(step), thousandth)?;
-        let (Some(below), Some(above)) = (steps(span.least, width)?, steps(span.most, width)?) else {
+        let (Some(below), Some(above)) = (steps(span.least, width)?, steps(span.most, width)?)
+        else {
             return Ok(None);
         };
         let above = above.max(1);
