@@ -35,4 +35,4 @@ head_text p =
 unfoldable pub document_text : Picture → List ℕ
 document_text p =
     opening_text (length p.panels)
-    ++ (MARKS ++ (STYLES ++ (head_text p ++ (numbered (panel_text p) 0 p.panels ++ (codes "</svg>" ++ (10 ∷ []))))))
+    ++ (MARKS.now ++ (STYLES.now ++ (head_text p ++ (numbered (panel_text p) 0 p.panels ++ (codes "</svg>" ++ (10 ∷ []))))))
