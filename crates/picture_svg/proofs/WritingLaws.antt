@@ -1,5 +1,8 @@
 -- What loops that write texts keep.
-use Rattle.std.proofs.Common.{add-one, ◌≡◌, ℕ, ◌+◌, ◌<◌, ◌≤◌, List, [], ◌∷◌, ◌++◌, length, get_or, drop, refl, sym, ap, ◌∙◌, append_assoc}
+use Rattle.std.specs.Result.{OnOk, is_ok}
+use Rattle.std.specs.Bool.{if◌then◌else◌}
+use Rattle.std.proofs.lemmas.Result.{on_ok_weaker}
+use Rattle.std.proofs.Common.{Result, Ok, Err, add-one, ◌≡◌, ℕ, ◌+◌, ◌<◌, ◌≤◌, List, [], ◌∷◌, ◌++◌, length, get_or, drop, refl, sym, ap, ◌∙◌, append_assoc}
 use Rattle.std.proofs.lemmas.List.{append-nil}
 use Rattle.std.proofs.Math.Seq.{drop-cons}
 use Rattle.std.proofs.Math.ListN.{drop_of_length-le}
@@ -45,3 +48,29 @@ pub numbered_item : {X : Type 0} (lines : ℕ → X → List ℕ) (x : X) (xs : 
     → m ≡ i + 1 → now ++ numbered lines i (drop i xs) ≡ old ++ all → new ≡ now ++ lines i x → new ++ numbered lines m (drop (i + 1) xs) ≡ old ++ all
 numbered_item {X} lines x xs i m old now new all lt is next left wrote =
     numbered_goes_on lines x xs i m old now new all lt next left (wrote ∙ ap (λ (y : X). now ++ lines i y) is)
+
+-- ---- pieces that are written one after another
+
+pub joins : (old a b w z : List ℕ) → w ≡ old ++ a → z ≡ w ++ b → z ≡ old ++ (a ++ b)
+joins old a b w z first next = next ∙ ap (λ (x : List ℕ). x ++ b) first ∙ append_assoc old a b
+
+pub ends_2 : {T E : Type 0} (r : Result T E) (old a b w z : List ℕ) → w ≡ old ++ a → OnOk r (z ≡ w ++ b) → OnOk r (z ≡ old ++ (a ++ b))
+ends_2 r old a b w z first last = on_ok_weaker r (λ (next : z ≡ w ++ b). joins old a b w z first next) last
+
+pub ends_3 : {T E : Type 0} (r : Result T E) (old a b c w x z : List ℕ) → w ≡ old ++ a → x ≡ w ++ b → OnOk r (z ≡ x ++ c)
+    → OnOk r (z ≡ old ++ (a ++ (b ++ c)))
+ends_3 r old a b c w x z first second last = ends_2 r old a (b ++ c) w z first (ends_2 r w b c x z second last)
+
+pub ends_4 : {T E : Type 0} (r : Result T E) (old a b c d w x y z : List ℕ) → w ≡ old ++ a → x ≡ w ++ b → y ≡ x ++ c → OnOk r (z ≡ y ++ d)
+    → OnOk r (z ≡ old ++ (a ++ (b ++ (c ++ d))))
+ends_4 r old a b c d w x y z first second third last = ends_2 r old a (b ++ (c ++ d)) w z first (ends_3 r w b c d x y z second third last)
+
+pub ends_5 : {T E : Type 0} (r : Result T E) (old a b c d e v w x y z : List ℕ) → v ≡ old ++ a → w ≡ v ++ b → x ≡ w ++ c → y ≡ x ++ d → OnOk r (z ≡ y ++ e)
+    → OnOk r (z ≡ old ++ (a ++ (b ++ (c ++ (d ++ e)))))
+ends_5 r old a b c d e v w x y z first second third fourth last =
+    ends_2 r old a (b ++ (c ++ (d ++ e))) v z first (ends_4 r v b c d e w x y z second third fourth last)
+
+-- what a push says of its result
+pub pushed : {T E : Type 0} (r : Result T E) (w b z : List ℕ) → z ≡ (if is_ok r then w ++ b else w) → OnOk r (z ≡ w ++ b)
+pushed (Ok x) w b z is = is
+pushed (Err e) w b z is = tt

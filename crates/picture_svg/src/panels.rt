@@ -2,7 +2,7 @@
 ghost use Rattle.std.specs.Prelude.{◌≡◌, ◌++◌, OnOk, string_bytes};
 ghost use Rattle.text_lines.specs.Steps.{numbered};
 ghost use Rattle.picture_svg.specs.Shapes.{listed};
-ghost use Rattle.picture_svg.specs.Panels.{area_of, axes_text, columns_text, frame_text, legend_text, line_text, name_text, panel_text, sample_of, tick_text, title_text};
+ghost use Rattle.picture_svg.specs.Panels.{area_of, axes_text, columns_text, frame_text, legend_text, line_text, name_text, panel_text, sample_of, tick_style, tick_text, title_text};
 
 use crate::shapes::{put_area, put_column, put_grid, put_polyline, put_sample, put_thousandths};
 use crate::styles::{label_of, style_of, unit_of};
@@ -102,7 +102,7 @@ fn put_ticks(out: &mut String, ticks: &[Tick]) -> Result<(), AllocError>
 fn put_tick(out: &mut String, tick: Tick) -> Result<(), AllocError>
     ensures { OnOk result (string_bytes out.new ≡ string_bytes out.old ++ tick_text tick) }
 {
-    put_grid(out, if tick.amount == 0 { "zero" } else { "grid" }, tick.up)?;
+    put_grid(out, tick_style(tick.amount), tick.up)?;
     write!(
         out,
         "<text text-anchor='end' dy='230' x='-400' y='-{}'>",
@@ -110,6 +110,13 @@ fn put_tick(out: &mut String, tick: Tick) -> Result<(), AllocError>
     )?;
     put_thousandths(out, tick.amount)?;
     out.push_str("</text>\n")
+}
+
+/// The line at nothing stands out.
+fn tick_style(amount: i128) -> &'static str
+    ensures { result.now ≡ tick_style amount }
+{
+    if amount == 0 { "zero" } else { "grid" }
 }
 
 fn put_columns(out: &mut String, columns: &[u32]) -> Result<(), AllocError>
