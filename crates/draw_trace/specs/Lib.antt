@@ -1,0 +1,9 @@
+pub mod Requests
+pub mod Ordered
+pub mod Reports
+pub mod Shown
+pub mod Saved
+pub mod Drawing
+pub mod Fetched
+pub mod Halted
+pub mod Ended

@@ -1,0 +1,7 @@
+use Rattle.std.proofs.Common.{◌≡◌, map}
+use Rattle.std.specs.List.{range_with_len}
+use Rattle.trace_picture.specs.Panels.{waiting_of_flow}
+use Rattle.trace_picture.proofs.panels.waiting.Given as goal
+
+abbrev pub invariant-loop-index : goal.invariant-loop-index
+invariant-loop-index l = l.quantities ≡ map waiting_of_flow (range_with_len 1 l.index)
