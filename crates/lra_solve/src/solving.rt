@@ -7,7 +7,8 @@ ghost use Rattle.lra_solve.specs.Solving.{IsValued, Solves, seen_of, value_of};
 
 use crate::solved::{Solved, Spent};
 use clause_form::Clauses;
-use clause_search::{Found, search};
+use clause_search::{Found, search_guided};
+use corner_guide::CornerGuide;
 use fraction::MixedFrac;
 use lra_theory::{Lra, LraFault};
 use sqlite_items::Items;
@@ -30,8 +31,11 @@ pub fn solve(alloc: Global, clauses: &Clauses, budget: u64) -> Solved
         Ok(theory) => theory,
         Err(NoMemory) => return Solved::NoMemory,
     };
+    let Ok(mut guide) = CornerGuide::new(alloc, clauses) else {
+        return Solved::NoMemory;
+    };
     let mut budget = Budget::new(budget);
-    match search(alloc, clauses, &mut theory, &mut budget) {
+    match search_guided(alloc, clauses, &mut theory, &mut budget, &mut guide) {
         Found::Total(truths, journal) => valued(&theory, truths, Spent { budget, journal }),
         Found::Closed(cert) => Solved::Closed(cert),
         Found::Spent(journal) => Solved::Spent(Spent { budget, journal }),

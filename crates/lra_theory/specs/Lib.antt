@@ -1,5 +1,6 @@
 pub mod Forms
 pub mod Literals
+pub mod Excess
 pub mod States
 pub mod Setting
 pub mod Clashes

@@ -7,6 +7,7 @@
 
 mod checking;
 mod clash;
+mod excess;
 mod fault;
 mod rows;
 mod sums;

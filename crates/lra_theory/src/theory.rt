@@ -1,20 +1,24 @@
 //! The theory itself: the simplex over the forms of some clauses, told literals of their atoms.
 
-ghost use Rattle.std.specs.Prelude.{◌≡◌, pos, ◌≤ℤ◌, true, unsigned_abs, length, All, IfOk, OnOk, IfErr};
+ghost use Rattle.std.specs.Prelude.{◌≡◌, pos, ◌≤ℤ◌, true, unsigned_abs, length, All, IfOk, OnOk, IfErr, IfSome, IsSomeAnd};
 ghost use Rattle.whole.specs.Numbers.{IsWithin};
 ghost use Rattle.whole.specs.declared.answers.Stuck.{Stuck as StuckValue};
 ghost use Rattle.linear_form.specs.Sums.{entry};
+ghost use Rattle.ordered_field.specs.Delta.{delta_value};
 ghost use Rattle.clause_form.specs.Derivations.{rows_of};
 ghost use Rattle.clause_form.specs.Theories.{AreMet};
 ghost use Rattle.clause_form.specs.WellFormed.{IsWellFormed};
 ghost use Rattle.corner_values.specs.Faults.{IsStuckValue};
 ghost use Rattle.corner_values.specs.Values.{AreValuesAt};
+ghost use Rattle.lra_theory.specs.Excess.{IsExcess};
 ghost use Rattle.lra_theory.specs.Forms.{IsStuckCoefficient};
+ghost use Rattle.lra_theory.specs.Literals.{bound_of};
 ghost use Rattle.lra_theory.specs.Soundness.{IsGood, IsOpened};
 ghost use Rattle.lra_theory.specs.Standings.{IfStuck, IsFresh, is_clash, is_fine, rest_after, seen};
 
 use crate::checking::checked;
 use crate::clash::heard;
+use crate::excess::excess;
 use crate::fault::LraFault;
 use crate::rows::Rows;
 use crate::telling::told;
@@ -23,7 +27,7 @@ use crate::undoing::cut;
 use clause_form::{Clauses, Heard, Theory};
 use corner_values::Values;
 use farkas_cert::{Journal, Lit};
-use ordered_field::OrderedField;
+use ordered_field::{Delta, OrderedField, Wide};
 use simplex::Simplex;
 use std::alloc::Global;
 use std::marker::Model;
@@ -96,6 +100,22 @@ impl<F: OrderedField> Lra<F> {
             Ok(values) => Ok(values),
             Err(PivotFault::Stuck(stuck)) => Err(LraFault::Stuck(stuck)),
             Err(PivotFault::NoMemory) => Err(LraFault::NoMemory),
+        }
+    }
+
+    /// By how much the row of a literal is violated at the corner: it holds there where this isn't above zero. There is
+    /// none for a name, and where a number is too wide.
+    pub fn excess(&self, lit: Lit) -> Option<Delta<F>>
+        ensures { IfSome result (λ d. IsSomeAnd (bound_of (seen F.value self.now).rows lit)
+            (λ b. IsExcess b ((seen F.value self.now).state.corner.value b.var) (delta_value F.value d))) }
+    {
+        let bound = self.rows.bound(lit)?;
+        if bound.var >= self.simplex.variables() {
+            return None;
+        }
+        match excess(bound, self.simplex.value(bound.var)) {
+            Ok(excess) => Some(excess),
+            Err(Wide) => None,
         }
     }
 }

@@ -1,0 +1,185 @@
+// The guide itself.
+ghost use Rattle.clause_search.specs.Advices.{IfStop};
+
+use crate::definitions::{Definitions, Parts};
+use crate::distance::Distance;
+use crate::outlook::{DEEPEST, Outlook};
+use clause_form::Clauses;
+use clause_search::{Advice, Guide};
+use farkas_cert::{Lemma, Lit};
+use learned_clause::Assigned;
+use lra_theory::Lra;
+use ordered_field::OrderedField;
+use std::alloc::Global;
+use whole::NoMemory;
+
+/// Decides for the least-numbered clause that is true neither on the trail nor at the corner, by its
+/// least violated literal.
+///
+/// - A clause that holds at the corner needs no decision, since the values that are at hand satisfy it.
+///   So only what the corner breaks is decided, and few atoms are.
+/// - The least violated literal is the one that the corner reaches by the least change. A name counts
+///   as the formula that it stands for, and is decided by a part of it, since a row moves the corner
+///   and a name alone doesn't.
+/// - The clauses come in their order, which is that of the steps of a run: what comes early has its
+///   effects on all that is later.
+///
+/// Measured on generated problems of seeds 1 to 20 with 2,000 moves. A simulation of the search, at nine
+/// sizes from 1 to 32: the first literal of the first open clause decides 161 of 180, and this rule 169
+/// where the search stops as soon as the corner is a model. The search itself, without that stop:
+/// beside the first rule it also decides seed 15 at sizes 4, 8 and 12. It spends all moves on seed 19
+/// at size 2, which the first rule decides in the simulation.
+#[derive(Debug, Drop)]
+pub struct CornerGuide {
+    alloc: Global,
+    definitions: Definitions,
+}
+
+impl CornerGuide {
+    /// A guide for these clauses.
+    pub fn new(alloc: Global, clauses: &Clauses) -> Result<CornerGuide, NoMemory> {
+        Ok(CornerGuide {
+            alloc,
+            definitions: Definitions::new(alloc, clauses)?,
+        })
+    }
+}
+
+impl<F: OrderedField> Guide<Lra<F>> for CornerGuide {
+    // It never stops a search.
+    ghost stops = { λ clauses guide theory. ⊥ };
+
+    fn advise(
+        &mut self,
+        clauses: &Clauses,
+        lemmas: &[Lemma],
+        trail: &[Assigned],
+        theory: &Lra<F>,
+    ) -> Advice {
+        match Outlook::new(self.alloc, clauses, &self.definitions, trail, theory) {
+            Ok(outlook) => advice(wanted(&outlook, lemmas)),
+            Err(NoMemory) => Advice::Nothing,
+        }
+    }
+}
+
+// Where each clause is true at the corner, the search goes on by its own rule.
+fn advice(wanted: Option<Lit>) -> Advice
+    ensures { IfStop ⊥ result }
+{
+    match wanted {
+        Some(lit) => Advice::Decide(lit),
+        None => Advice::Nothing,
+    }
+}
+
+// The literal to decide for the first clause or lemma that isn't true.
+fn wanted<F: OrderedField>(outlook: &Outlook<F>, lemmas: &[Lemma]) -> Option<Lit> {
+    for clause in outlook.clauses.clauses.as_slice() {
+        if let Some(lit) = nearest(outlook, clause.as_slice()) {
+            return Some(descend(outlook, lit));
+        }
+    }
+    wanted_of_lemmas(outlook, lemmas)
+}
+
+fn wanted_of_lemmas<F: OrderedField>(outlook: &Outlook<F>, lemmas: &[Lemma]) -> Option<Lit> {
+    for lemma in lemmas {
+        if let Some(lit) = nearest(outlook, lemma.clause.as_slice()) {
+            return Some(descend(outlook, lit));
+        }
+    }
+    None
+}
+
+/// The least violated literal of a clause that isn't true.
+pub(crate) fn nearest<F: OrderedField>(outlook: &Outlook<F>, clause: &[Lit]) -> Option<Lit> {
+    if is_true(outlook, clause) {
+        return None;
+    }
+    let mut best = None;
+    for lit in clause {
+        let distance = outlook.distance(*lit, DEEPEST);
+        if distance.is_true() {
+            return None;
+        }
+        best = closer(best, *lit, distance);
+    }
+    literal_of(best)
+}
+
+// The nearer of two literals, the first of equals.
+fn closer<F: OrderedField>(
+    best: Option<(Lit, Distance<F>)>,
+    lit: Lit,
+    distance: Distance<F>,
+) -> Option<(Lit, Distance<F>)> {
+    match best {
+        Some((first, least)) => {
+            if distance.is_less(least) {
+                Some((lit, distance))
+            } else {
+                Some((first, least))
+            }
+        }
+        None => Some((lit, distance)),
+    }
+}
+
+fn literal_of<F: OrderedField>(best: Option<(Lit, Distance<F>)>) -> Option<Lit> {
+    match best {
+        Some((lit, _)) => Some(lit),
+        None => None,
+    }
+}
+
+// Whether a literal of the clause is true on the trail, which is seen without a measurement.
+fn is_true<F: OrderedField>(outlook: &Outlook<F>, clause: &[Lit]) -> bool {
+    for lit in clause {
+        if outlook.truth(*lit) == Some(true) {
+            return true;
+        }
+    }
+    false
+}
+
+// A name is decided by one of its parts that isn't true.
+fn descend<F: OrderedField>(outlook: &Outlook<F>, from: Lit) -> Lit {
+    let mut lit = from;
+    for _level in 0..DEEPEST {
+        match part_of(outlook, lit) {
+            Some(part) => lit = part,
+            None => return lit,
+        }
+    }
+    lit
+}
+
+// The first part that isn't true where all are wanted, and else the least violated.
+fn part_of<F: OrderedField>(outlook: &Outlook<F>, lit: Lit) -> Option<Lit> {
+    let parts = outlook.parts(lit)?;
+    if parts.all {
+        first_false(outlook, parts)
+    } else {
+        least_violated(outlook, parts)
+    }
+}
+
+fn first_false<F: OrderedField>(outlook: &Outlook<F>, parts: Parts) -> Option<Lit> {
+    for part in parts.rest {
+        let part = parts.signed(*part);
+        if !outlook.distance(part, DEEPEST).is_true() {
+            return Some(part);
+        }
+    }
+    None
+}
+
+fn least_violated<F: OrderedField>(outlook: &Outlook<F>, parts: Parts) -> Option<Lit> {
+    let mut best = None;
+    for part in parts.rest {
+        let part = parts.signed(*part);
+        best = closer(best, part, outlook.distance(part, DEEPEST));
+    }
+    literal_of(best)
+}

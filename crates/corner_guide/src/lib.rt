@@ -1,0 +1,15 @@
+//! Decisions by the corner of a theory of linear rows.
+//!
+//! A guide promises nothing: it only chooses among decisions that a search may make anyway. It measures
+//! a literal by how much its row is violated at the corner that the last check found, and decides for
+//! the first clause that the corner doesn't satisfy, by its least violated literal.
+#![tactic(auto)]
+
+mod definitions;
+mod distance;
+mod guide;
+mod outlook;
+#[cfg(test)]
+mod tests;
+
+pub use guide::CornerGuide;
