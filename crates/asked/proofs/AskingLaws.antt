@@ -11,7 +11,7 @@ use Rattle.ctrl_types.specs.Resolved.{Resolves}
 use Rattle.ctrl_types.specs.Resolving.{controller_seen}
 use Rattle.ctrl_types.specs.declared.controllers.Controller.{Controller}
 use Rattle.ctrl_types.proofs.SameController.{one_controller}
-use Rattle.question_text.specs.Resolving.{question_seen}
+use Rattle.question_text.specs.StatementRules.{question_seen}
 use Rattle.question_text.specs.Texts.{IsRefused}
 use Rattle.question_text.specs.declared.questions.Question.{Question}
 use Rattle.question_text.proofs.SeenLaws.{refused_same, text_same}

@@ -6,7 +6,7 @@ use Rattle.whole.specs.declared.answers.Refusal.{Refusal}
 use Rattle.ctrl_syntax.specs.declared.syntax.Syntax.{Syntax}
 use Rattle.ctrl_types.specs.declared.controllers.Controller.{Controller}
 use Rattle.question_text.specs.Limits.{IsQuestion}
-use Rattle.question_text.specs.Resolving.{question_seen}
+use Rattle.question_text.specs.StatementRules.{question_seen}
 use Rattle.question_text.specs.Texts.{IsRefused, IsTextOf}
 use Rattle.question_text.specs.declared.questions.Question.{Question}
 use Rattle.asked.specs.Texts.{IsControllerRefused, IsControllerText}

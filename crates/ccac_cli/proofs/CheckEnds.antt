@@ -10,13 +10,14 @@ use Rattle.verdict.specs.Problems.{problem_of}
 use Rattle.verdict.specs.declared.judging.Verdict.{Verdict}
 use Rattle.verdict.specs.declared.judging.Verdict.TheVariants.{Budget, Verified, Violated, Wide}
 use Rattle.ccac_ports.specs.Ports.{Got, HasRisen, Told}
-use Rattle.ccac_cli.specs.Asked as asking
+use Rattle.ccac_cli.specs.AskAnswers as asking
 use Rattle.ccac_cli.specs.Checks.{CheckAnswers, VerdictAnswers, judged, large, unknown_report, verdict_report, verified_report, violated_report}
 use Rattle.ccac_cli.specs.Commands.{Order, check}
-use Rattle.ccac_cli.specs.Ended.{Answers, CanCheck, Ends, OrderAnswers, cut_short, no_memory, no_memory_left, whole}
-use Rattle.ccac_cli.specs.Reports.{Answer}
-use Rattle.ccac_cli.specs.declared.reports.Source.TheVariants.{Controller as ControllerFile, Question as QuestionFile}
-use Rattle.ccac_cli.proofs.OneAnswer.{told_decides}
+use Rattle.file_reports.specs.Ended.{Ends, cut_short, no_memory, no_memory_left, whole}
+use Rattle.ccac_cli.specs.Ended.{Answers, CanCheck, OrderAnswers}
+use Rattle.file_reports.specs.Reports.{Answer}
+use Rattle.file_reports.specs.declared.sources.Source.TheVariants.{Controller as ControllerFile, Question as QuestionFile}
+use Rattle.file_reports.proofs.HadLaws.{told_decides}
 use Rattle.ccac_cli.proofs.OneReplay.{refused_or_asked}
 use Rattle.verdict.proofs.SameProblem.{problem_same}
 

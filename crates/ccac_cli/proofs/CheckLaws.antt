@@ -10,13 +10,14 @@ use Rattle.verdict.specs.declared.judging.JudgeFault.{JudgeFault}
 use Rattle.verdict.specs.declared.judging.JudgeFault.TheVariants as judging
 use Rattle.verdict.specs.declared.judging.Verdict.{Verdict}
 use Rattle.verdict.specs.declared.judging.Verdict.TheVariants.{Budget, Verified, Violated, Wide}
-use Rattle.ccac_cli.specs.Asked.{ask_refused, asked, controller_refused, question_refused}
+use Rattle.ccac_cli.specs.AskAnswers.{ask_refused, asked, controller_refused, question_refused}
 use Rattle.ccac_cli.specs.Checks.{CheckAnswers, IsPrintable, judged, large, verdict_report}
-use Rattle.ccac_cli.specs.Halted.{HaltsBy}
-use Rattle.ccac_cli.specs.Reports.{Answer, refused, too_large}
-use Rattle.ccac_cli.specs.declared.reports.Source.TheVariants.{Controller as ControllerFile, Question as QuestionFile}
-use Rattle.ccac_cli.specs.declared.fetching.Halt.{Halt}
-use Rattle.ccac_cli.proofs.HaltLaws.{halts_so}
+use Rattle.file_reports.specs.Halted.{HaltsBy}
+use Rattle.file_reports.specs.Reports.{Answer, refused}
+use Rattle.ccac_cli.specs.Reports.{too_large}
+use Rattle.file_reports.specs.declared.sources.Source.TheVariants.{Controller as ControllerFile, Question as QuestionFile}
+use Rattle.file_reports.specs.declared.early_end.EarlyEnd.{EarlyEnd}
+use Rattle.file_reports.proofs.HaltLaws.{halts_so}
 
 says_printable : (c : Controller) (q : Question) (p : Problem) (v : Verdict) → Says c q p v → IsPrintable v
 says_printable c q p (Violated shape run) says = (says.within, says.fits)
@@ -31,14 +32,14 @@ module _ (controller question : List ℕ) where
   pub verdict_answers : (v : Verdict) (a : Answer) → Judges controller question (Ok v) → a ≡ verdict_report v → CheckAnswers controller question a
   verdict_answers v a is shows = subst (CheckAnswers controller question) (sym shows) (asked is.0 is.1 is.2 (judged is.3.0 v is.3.1 is.3.2))
 
-  pub controller_answers : (fault : JudgeFault) (r : Refusal) (halt : Halt) → fault ≡ judging.Controller r → Judges controller question (Err fault)
+  pub controller_answers : (fault : JudgeFault) (r : Refusal) (halt : EarlyEnd) → fault ≡ judging.Controller r → Judges controller question (Err fault)
       → HaltsBy (λ a. a ≡ refused ControllerFile r) halt → HaltsBy (CheckAnswers controller question) halt
   controller_answers fault r halt same is ends =
       let broken = subst (λ (f : JudgeFault). Judges controller question (Err f)) same is in
       halts_so (λ a. a ≡ refused ControllerFile r) (CheckAnswers controller question) halt
       (λ a shows. subst (CheckAnswers controller question) (sym shows) (ask_refused (controller_refused r broken))) ends
 
-  pub question_answers : (fault : JudgeFault) (r : Refusal) (halt : Halt) → fault ≡ judging.Question r → Judges controller question (Err fault)
+  pub question_answers : (fault : JudgeFault) (r : Refusal) (halt : EarlyEnd) → fault ≡ judging.Question r → Judges controller question (Err fault)
       → HaltsBy (λ a. a ≡ refused QuestionFile r) halt → HaltsBy (CheckAnswers controller question) halt
   question_answers fault r halt same is ends =
       let broken = subst (λ (f : JudgeFault). Judges controller question (Err f)) same is in
@@ -49,5 +50,5 @@ module _ (controller question : List ℕ) where
   pub size_answers : (fault : JudgeFault) (what : What) (limit : ℕ) (a : Answer) → fault ≡ judging.Large what limit → Judges controller question (Err fault)
       → a ≡ too_large what limit → CheckAnswers controller question a
   size_answers fault what limit a same is shows =
-      let passes = subst (λ (f : JudgeFault). Judges controller question (Err f)) same is in
-      subst (CheckAnswers controller question) (sym (shows ∙ ap (too_large what) passes.3.1)) (asked passes.0 passes.1 passes.2 (large what passes.3.0))
+      let overflows = subst (λ (f : JudgeFault). Judges controller question (Err f)) same is in
+      subst (CheckAnswers controller question) (sym (shows ∙ ap (too_large what) overflows.3.1)) (asked overflows.0 overflows.1 overflows.2 (large what overflows.3.0))

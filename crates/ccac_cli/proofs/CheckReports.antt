@@ -5,7 +5,8 @@ use Rattle.cert_check.specs.Answers.{IsAnswer, answer_of, named}
 use Rattle.cert_check.specs.Verdicts.{Verdict, fails, proved, wide}
 use Rattle.cert_check.specs.declared.found.Checked.{Checked}
 use Rattle.cert_check.specs.declared.found.Checked.TheVariants.{Fails, NoMemory, Proved, Wide}
-use Rattle.ccac_cli.specs.Reports.{Answer, SaysOfCheck, check_report, unproved, wide_sum}
+use Rattle.file_reports.specs.Reports.{Answer}
+use Rattle.ccac_cli.specs.Reports.{SaysOfCheck, check_report, unproved, wide_sum}
 
 proved_reported : (v : Verdict) (a : Answer) → Proved ≡ answer_of v → a ≡ record { status = 0; text = codes "proved\n" } → a ≡ check_report v
 unfolding answer_of check_report
@@ -23,11 +24,11 @@ failure_reported (fails lemma node cause) a l n k is shows =
     shows ∙ ap (λ x. unproved x n k) first ∙ ap (λ x. unproved (named lemma) x k) second ∙ ap (unproved (named lemma) (named node)) third
 failure_reported (wide lemma node column) a l n k is shows = absurd (cc)
 
-passing_reported : (v : Verdict) (a : Answer) (l n k : ℕ) → Wide l n k ≡ answer_of v → a ≡ wide_sum l n k → a ≡ check_report v
+overflow_reported : (v : Verdict) (a : Answer) (l n k : ℕ) → Wide l n k ≡ answer_of v → a ≡ wide_sum l n k → a ≡ check_report v
 unfolding answer_of check_report
-passing_reported proved a l n k is shows = absurd (cc)
-passing_reported (fails lemma node cause) a l n k is shows = absurd (cc)
-passing_reported (wide lemma node column) a l n k is shows =
+overflow_reported proved a l n k is shows = absurd (cc)
+overflow_reported (fails lemma node cause) a l n k is shows = absurd (cc)
+overflow_reported (wide lemma node column) a l n k is shows =
     let first : l ≡ named lemma = cc in
     let second : n ≡ named node = cc in
     let third : k ≡ column = cc in
@@ -37,5 +38,5 @@ passing_reported (wide lemma node column) a l n k is shows =
 pub check_reported : (v : Verdict) (checked : Checked) (a : Answer) → IsAnswer checked (answer_of v) → SaysOfCheck checked a → a ≡ check_report v
 check_reported v Proved a is says = proved_reported v a is says
 check_reported v (Fails l n k) a is says = failure_reported v a l n k is says
-check_reported v (Wide l n k) a is says = passing_reported v a l n k is says
+check_reported v (Wide l n k) a is says = overflow_reported v a l n k is says
 check_reported v NoMemory a is says = absurd says

@@ -13,19 +13,22 @@ use Rattle.verdict.specs.Problems.{IsProblemOf}
 use Rattle.verdict.specs.declared.judging.Verdict.{Verdict}
 use Rattle.verdict.specs.declared.judging.Verdict.TheVariants.{Budget, Verified, Violated, Wide}
 use Rattle.ccac_ports.specs.Ports.{Got, Told}
-use Rattle.ccac_cli.specs.Asked.{AskRefused}
-use Rattle.ccac_cli.specs.Asked as asking
+use Rattle.ccac_cli.specs.AskAnswers.{AskRefused}
+use Rattle.ccac_cli.specs.AskAnswers as asking
 use Rattle.ccac_cli.specs.Checks.{CheckAnswers, VerdictAnswers, unknown_report, verdict_report, verified_report, violated_report}
 use Rattle.ccac_cli.specs.Checks as checking
 use Rattle.ccac_cli.specs.Commands.{Order, check}
-use Rattle.ccac_cli.specs.Ended.{Answers, Ends, IsPart, OrderAnswers, cut_short, no_memory, no_memory_left, whole}
-use Rattle.ccac_cli.specs.Fetched.{FetchEnds, IsFetched, faulty, goes_on, longer, stops}
+use Rattle.file_reports.specs.Ended.{Ends}
+use Rattle.file_reports.proofs.EndLaws.{ends_so}
+use Rattle.file_reports.proofs.HadLaws.{ends_high}
+use Rattle.ccac_cli.specs.Ended.{Answers, OrderAnswers}
+use Rattle.file_reports.specs.Fetched.{IsFetched, goes_on, stops}
 use Rattle.ccac_cli.specs.Headline.{Headline, a_certificate, a_trace, controller_rule, no_controller, no_question, question_rule, size_limit}
 use Rattle.ccac_cli.specs.Headline.{unknown_by_budget, unknown_by_number}
 use Rattle.ccac_cli.specs.Named.{NamesQuestion}
-use Rattle.ccac_cli.specs.Reports.{Answer, read_fault, refused, too_large, too_long}
-use Rattle.ccac_cli.specs.declared.reports.Source.{Source}
-use Rattle.ccac_cli.specs.declared.reports.Source.TheVariants.{Controller as ControllerFile, Question as QuestionFile}
+use Rattle.file_reports.specs.Reports.{Answer, refused}
+use Rattle.ccac_cli.specs.Reports.{too_large}
+use Rattle.file_reports.specs.declared.sources.Source.TheVariants.{Controller as ControllerFile, Question as QuestionFile}
 
 -- a controller and a question that were read
 abbrev pub names_asked : (folder : Told) (c q controller question : List ℕ) (d : Controller) (p : Question) → IsFetched folder ControllerFile c controller
@@ -68,7 +71,7 @@ module _ (old new : Told) (c q : List ℕ) where
       (record { problem = p.clauses; posed = of.made; spent = spent; text_is = refl; all_spent = says })
   verdict_headline files p (Wide stuck spent) of says =
       unknown_by_number files stuck (text (journal_lines spent.journal.moves))
-      (record { problem = p; posed = of; spent = spent; text_is = refl; passes = says })
+      (record { problem = p; posed = of; spent = spent; text_is = refl; overflows = says })
 
   conclusion_headline : (files : NamesQuestion old c q) (a : Answer) → VerdictAnswers files.asked.controller files.question a → Headline old new c q a
   conclusion_headline files _ (checking.large what is) = size_limit files what is
@@ -82,7 +85,7 @@ module _ (old new : Told) (c q : List ℕ) where
   refusal_headline controller question _ first second (asking.question_refused syntax d r spelled is) =
       question_rule (record { bytes = controller; fetched = first; syntax = syntax; controller = d; is = spelled }) question r second is
 
-  checked_headline : (controller question : List ℕ) (a : Answer) → IsFetched old ControllerFile c controller → IsFetched old QuestionFile q question
+  pub checked_headline : (controller question : List ℕ) (a : Answer) → IsFetched old ControllerFile c controller → IsFetched old QuestionFile q question
       → CheckAnswers controller question a → Headline old new c q a
   checked_headline controller question a first second (asking.ask_refused is) = refusal_headline controller question a first second is
   checked_headline controller question a first second (asking.asked d p are answers) =
@@ -95,11 +98,6 @@ module _ (old new : Told) (c q : List ℕ) where
 
   -- ---- none has the status of usage
 
-  fetch_is_no_usage : (source : Source) (name : List ℕ) (a : Answer) → FetchEnds old new source name a → a.status ≡ 4 → ⊥
-  unfolding read_fault too_long
-  fetch_is_no_usage source name _ (faulty rose) four = omega arith
-  fetch_is_no_usage source name _ (longer rose past) four = omega arith
-
   pub headline_is_no_usage : (a : Answer) → Headline old new c q a → a.status ≡ 4 → ⊥
   unfolding refused too_large
   headline_is_no_usage _ (a_trace files bytes is) four = omega arith
@@ -109,20 +107,10 @@ module _ (old new : Told) (c q : List ℕ) where
   headline_is_no_usage _ (controller_rule controller question r first second is) four = omega arith
   headline_is_no_usage _ (question_rule named question r second is) four = omega arith
   headline_is_no_usage _ (size_limit files what is) four = omega arith
-  headline_is_no_usage _ (no_controller a ends) four = fetch_is_no_usage ControllerFile c a ends four
-  headline_is_no_usage _ (no_question controller a first ends) four = fetch_is_no_usage QuestionFile q a ends four
+  headline_is_no_usage _ (no_controller a ends) four = (ends_high old new ControllerFile c a ends).1 four
+  headline_is_no_usage _ (no_question controller a first ends) four = (ends_high old new QuestionFile q a ends).1 four
 
 -- ---- the call
-
-part_so : (Allowed More : Answer → Type 0) (before after : Got) → ((a : Answer) → Allowed a → More a) → IsPart Allowed before after → IsPart More before after
-part_so Allowed More before after so part = record { answer = part.answer; allowed = so part.answer part.allowed; count = part.count; part = part.part }
-
-ends_so : (Allowed More : Answer → Type 0) (before after : Got) (status : ℕ) → ((a : Answer) → Allowed a → More a) → Ends Allowed before after status
-    → Ends More before after status
-ends_so Allowed More before after _ so (whole a allowed put) = whole a (so a allowed) put
-ends_so Allowed More before after _ so (cut_short rose part) = cut_short rose (part_so Allowed More before after so part)
-ends_so Allowed More before after _ so (no_memory put) = no_memory put
-ends_so Allowed More before after _ so (no_memory_left part) = no_memory_left (part_so Allowed More before after so part)
 
 pub headline_ends : (old new : Told) (words : Option Order) (before after : Got) (status : ℕ) → Ends (Answers old new words) before after status
     → (c q : List ℕ) → words ≡ Some (check c q) → Ends (Headline old new c q) before after status

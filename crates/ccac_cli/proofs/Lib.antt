@@ -1,5 +1,5 @@
 pub mod HaltLaws
-pub mod FetchLaws
+pub mod CarryLaws
 pub mod CheckReports
 pub mod HeadlineLaws
 pub mod MeaningLaws

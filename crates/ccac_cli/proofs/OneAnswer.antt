@@ -1,7 +1,6 @@
 -- The bytes of the files have one answer.
-use Rattle.std.proofs.Common.{◌≡◌, ℕ, ◌<◌, List, length, refl, sym, ap, subst, ◌∙◌, arith}
-use Rattle.std.specs.Prelude.{IfSome}
-use Rattle.ccac_ports.specs.Ports.{Tells, Told}
+use Rattle.std.proofs.Common.{◌≡◌, ℕ, List, sym, ap, subst, ◌∙◌}
+use Rattle.ccac_ports.specs.Ports.{Told}
 use Rattle.run_rows.specs.declared.rows.Run.{Run}
 use Rattle.path_server.specs.Places.{admission}
 use Rattle.path_server.specs.declared.settings.Setting.{Setting}
@@ -11,15 +10,22 @@ use Rattle.ctrl_syntax.proofs.Exactness as controllers
 use Rattle.question_syntax.proofs.Exactness as questions
 use Rattle.trace_text.proofs.Exactness as traces
 use Rattle.ccac_cli.specs.Admitting.{AdmitAnswers, TraceAnswers, trace_refused, examined, question_refused, question_read}
-use Rattle.ccac_cli.specs.Commands.{Order, admit, audit, check, format, format_question, replay}
+use Rattle.file_reports.specs.Had.{of_one_or_two, of_three, of_two}
+use Rattle.file_reports.proofs.HadLaws.{told_fetched, told_once}
+use Rattle.file_reports.proofs.TextLaws.{at_one_or_two, at_three, at_two}
+use Rattle.ccac_cli.specs.Audits.{AuditAnswers}
+use Rattle.ccac_cli.specs.Checks.{CheckAnswers, CheckRefusals}
+use Rattle.ccac_cli.specs.Commands.{Order, answers_of, entry_of, one_answer_of}
+use Rattle.ccac_cli.specs.Replays.{ReplayAnswers}
+use Rattle.ccac_cli.specs.declared.commands.Command.{Command}
+use Rattle.ccac_cli.specs.declared.commands.Command.TheVariants.{Admit, Audit, Check, Format, Replay}
 use Rattle.ccac_cli.specs.Ended.{OrderAnswers, ToldAnswers}
-use Rattle.ccac_cli.specs.Fetched.{Fetches, Holds, IsTold, faulty, goes_on, longer, stops}
-use Rattle.ccac_cli.specs.Formats.{FormatAnswers, controller_refused, controller_put, formatted}
-use Rattle.ccac_cli.specs.Reports.{Answer, limit_of, refused, verdict}
+use Rattle.ccac_cli.specs.Formats.{FormatAnswers, QuestionFormat, controller_refused, controller_put, formatted}
+use Rattle.file_reports.specs.Reports.{Answer, refused}
+use Rattle.ccac_cli.specs.Reports.{verdict}
 use Rattle.ccac_cli.specs.Saved.{behind_verdict}
 use Rattle.ccac_cli.specs.Texts.{IsSettingText}
-use Rattle.ccac_cli.specs.declared.reports.Source.{Source}
-use Rattle.ccac_cli.specs.declared.reports.Source.TheVariants.{Controller, Question, Trace, Cert}
+use Rattle.file_reports.specs.declared.sources.Source.TheVariants.{Controller, Question, Trace}
 use Rattle.asked.proofs.ControllerTexts.{one_refusal, not_both}
 use Rattle.ccac_cli.proofs.OneAudit.{audited_once}
 use Rattle.ccac_cli.proofs.OneCheck.{check_refused_so, checked_once}
@@ -54,69 +60,42 @@ formatted_once controller _ _ (controller_put syntax c one) (controller_refused 
 formatted_once controller _ _ (controller_put syntax c one) (controller_put other d two) =
     ap (λ (s : Sections). formatted (printed s)) (controllers.one_text controller (sections_of syntax) (sections_of other) one.spelled two.spelled)
 
--- ---- the files of an order
+-- ---- the texts of a command, and the files of an order
 
--- a file that is told is fetched as it is told to be, and its bytes decide
-pub told_decides : (old new : Told) (source : Source) (name held : List ℕ) (Then : List ℕ → Answer → Type 0) (a : Answer) → IsTold old new source name held
-    → Fetches old new source name Then a → Then held a
-told_decides old new source name held Then a is (stops (faulty rose)) = absurd (is.no_fault rose)
-told_decides old new source name held Then a is (stops (longer rose past)) =
-    let longer_still : limit_of source < length held =
-    subst (λ told. IfSome told (λ bytes. limit_of source < length bytes)) is.content past
-    in
-    let within = is.within in absurd (omega arith)
-told_decides old new source name held Then a is (goes_on bytes fetched decides) =
-    let same : bytes ≡ held = subst (λ told. Tells told bytes) is.content fetched.told in
-    subst (λ got. Then got a) same decides
+command_once : (command : Command) (texts : List (List ℕ)) (a b : Answer) → answers_of command texts a → one_answer_of command texts b → a ≡ b
+command_once Check texts a b one =
+    at_two CheckAnswers a (λ ts. of_two CheckRefusals ts b → a ≡ b)
+    (λ controller question is other. checked_once controller question a b is other) texts one
+command_once Audit texts a b one =
+    at_three AuditAnswers a (λ ts. of_three AuditAnswers ts b → a ≡ b)
+    (λ controller question cert is other. audited_once controller question cert a b is other) texts one
+command_once Replay texts a b one =
+    at_three ReplayAnswers a (λ ts. of_three ReplayAnswers ts b → a ≡ b)
+    (λ controller question trace is other. replayed_once controller question trace a b is other) texts one
+command_once Admit texts a b one =
+    at_two AdmitAnswers a (λ ts. of_two AdmitAnswers ts b → a ≡ b) (λ question trace is other. admitted_once question trace a b is other) texts one
+command_once Format texts a b one =
+    at_one_or_two FormatAnswers QuestionFormat a (λ ts. of_one_or_two FormatAnswers QuestionFormat ts b → a ≡ b)
+    (λ controller is other. formatted_once controller a b is other)
+    (λ controller question is other. question_formatted_once controller question a b is other) texts one
 
-same_file : (old new : Told) (source : Source) (name : List ℕ) (Then Other : List ℕ → Answer → Type 0) (a b : Answer)
-    → ((bytes : List ℕ) → Then bytes a → Other bytes b → a ≡ b) → Fetches old new source name Then a → Holds old new source name Other b → a ≡ b
-same_file old new source name Then Other a b once fetches held =
-    once held.bytes (told_decides old new source name held.bytes Then a held.told fetches) held.decides
+-- the one answer is an answer
+one_is_answer : (command : Command) (texts : List (List ℕ)) (a : Answer) → one_answer_of command texts a → answers_of command texts a
+one_is_answer Check texts a is =
+    at_two CheckRefusals a (λ ts. of_two CheckAnswers ts a) (λ controller question refuses. check_refused_so controller question a refuses) texts is
+one_is_answer Audit texts a is = is
+one_is_answer Replay texts a is = is
+one_is_answer Admit texts a is = is
+one_is_answer Format texts a is = is
 
-pub told_once : (old new : Told) (order : Order) (a b : Answer) → OrderAnswers old new order a → ToldAnswers old new order b → a ≡ b
-told_once old new (admit q t) a b one two =
-    same_file old new Question q _ _ a b
-    (λ question. same_file old new Trace t _ _ a b (λ trace. admitted_once question trace a b)) one two
-told_once old new (replay c q t) a b one two =
-    same_file old new Controller c _ _ a b
-    (λ controller. same_file old new Question q _ _ a b
-    (λ question. same_file old new Trace t _ _ a b (λ trace. replayed_once controller question trace a b))) one two
-told_once old new (audit c q k) a b one two =
-    same_file old new Controller c _ _ a b
-    (λ controller. same_file old new Question q _ _ a b
-    (λ question. same_file old new Cert k _ _ a b (λ cert. audited_once controller question cert a b))) one two
-told_once old new (check c q) a b one two =
-    same_file old new Controller c _ _ a b
-    (λ controller. same_file old new Question q _ _ a b (λ question. checked_once controller question a b)) one two
-told_once old new (format c) a b one two = same_file old new Controller c _ _ a b (λ controller. formatted_once controller a b) one two
-told_once old new (format_question c q) a b one two =
-    same_file old new Controller c _ _ a b
-    (λ controller. same_file old new Question q _ _ a b (λ question. question_formatted_once controller question a b)) one two
-
--- what is told can be fetched
-fetched_so : (old new : Told) (source : Source) (name : List ℕ) (Then Other : List ℕ → Answer → Type 0) (a : Answer)
-    → ((bytes : List ℕ) → Then bytes a → Other bytes a) → Holds old new source name Then a → Fetches old new source name Other a
-fetched_so old new source name Then Other a so held =
-    goes_on held.bytes
-    (record { told = subst (λ told. Tells told held.bytes) (sym held.told.content) refl; within = held.told.within })
-    (so held.bytes held.decides)
-
-told_fetched : (old new : Told) (order : Order) (a : Answer) → ToldAnswers old new order a → OrderAnswers old new order a
-told_fetched old new (admit q t) a held =
-    fetched_so old new Question q _ _ a (λ question. fetched_so old new Trace t _ _ a (λ trace is. is)) held
-told_fetched old new (replay c q t) a held =
-    fetched_so old new Controller c _ _ a
-    (λ controller. fetched_so old new Question q _ _ a (λ question. fetched_so old new Trace t _ _ a (λ trace is. is))) held
-told_fetched old new (audit c q k) a held =
-    fetched_so old new Controller c _ _ a
-    (λ controller. fetched_so old new Question q _ _ a (λ question. fetched_so old new Cert k _ _ a (λ cert is. is))) held
-told_fetched old new (check c q) a held =
-    fetched_so old new Controller c _ _ a
-    (λ controller. fetched_so old new Question q _ _ a (λ question is. check_refused_so controller question a is)) held
-told_fetched old new (format c) a held = fetched_so old new Controller c _ _ a (λ controller is. is) held
-told_fetched old new (format_question c q) a held =
-    fetched_so old new Controller c _ _ a (λ controller. fetched_so old new Question q _ _ a (λ question is. is)) held
+pub order_once : (old new : Told) (order : Order) (a b : Answer) → OrderAnswers old new order a → ToldAnswers old new order b → a ≡ b
+order_once old new order a b one two =
+    told_once old new (entry_of order.command).files order.names (answers_of order.command) (one_answer_of order.command) a b
+    (λ texts. command_once order.command texts a b) one two
 
 pub answered_once : (old new : Told) (order : Order) (a b : Answer) → ToldAnswers old new order a → ToldAnswers old new order b → a ≡ b
-answered_once old new order a b one two = told_once old new order a b (told_fetched old new order a one) two
+answered_once old new order a b one two =
+    order_once old new order a b
+    (told_fetched old new (entry_of order.command).files order.names (one_answer_of order.command) (answers_of order.command) a
+    (λ texts. one_is_answer order.command texts a) one)
+    two

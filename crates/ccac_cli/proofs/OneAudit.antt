@@ -4,7 +4,7 @@ use Rattle.std.proofs.Common.{◌≡◌, ℕ, List, [], ◌∷◌, ◌++◌, len
 use Rattle.std.specs.Prelude.{◌==◌, ◌&&◌}
 use Rattle.ctrl_types.specs.Resolving.{controller_seen}
 use Rattle.ctrl_types.specs.declared.controllers.Controller.{Controller}
-use Rattle.question_text.specs.Resolving.{question_seen}
+use Rattle.question_text.specs.StatementRules.{question_seen}
 use Rattle.question_text.specs.declared.questions.Question.{Question}
 use Rattle.farkas_cert.specs.declared.certificates.Cert.{Cert}
 use Rattle.clause_form.specs.Building.{limit_of}
@@ -18,8 +18,9 @@ use Rattle.cert_text.proofs.Exactness as certs
 use Rattle.verdict.specs.Problems.{problem_of}
 use Rattle.ccac_cli.specs.Saved.{behind_verdict}
 use Rattle.ccac_cli.specs.Audits.{AuditAnswers, CertAnswers, ProblemAnswers, cert_refused, checked, large, unrolled}
-use Rattle.ccac_cli.specs.Reports.{Answer, check_report, refused, too_large}
-use Rattle.ccac_cli.specs.declared.reports.Source.TheVariants.{Cert as CertFile}
+use Rattle.file_reports.specs.Reports.{Answer, refused}
+use Rattle.ccac_cli.specs.Reports.{check_report, too_large}
+use Rattle.file_reports.specs.declared.sources.Source.TheVariants.{Cert as CertFile}
 use Rattle.ccac_cli.proofs.OneReplay.{asks_once}
 use Rattle.verdict.proofs.SameProblem.{problem_same}
 

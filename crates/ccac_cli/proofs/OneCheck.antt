@@ -2,15 +2,16 @@
 use Rattle.std.proofs.Common.{◌≡◌, ◌∙◌, ℕ, List, Result, Ok, Err, sym, ap}
 use Rattle.ctrl_types.specs.Resolving.{controller_seen}
 use Rattle.ctrl_types.specs.declared.controllers.Controller.{Controller}
-use Rattle.question_text.specs.Resolving.{question_seen}
+use Rattle.question_text.specs.StatementRules.{question_seen}
 use Rattle.question_text.specs.declared.questions.Question.{Question}
 use Rattle.clause_form.specs.Building.{limit_of}
 use Rattle.clause_form.specs.declared.clauses.Clauses.{Clauses}
 use Rattle.clause_form.specs.declared.clauses.What.{What}
 use Rattle.verdict.specs.Problems.{problem_of}
-use Rattle.ccac_cli.specs.Asked.{Asks, ask_refused, asked}
+use Rattle.ccac_cli.specs.AskAnswers.{ask_refused, asked}
 use Rattle.ccac_cli.specs.Checks.{CheckAnswers, CheckRefusals, SizeAnswers, VerdictAnswers, judged, large, limited}
-use Rattle.ccac_cli.specs.Reports.{Answer, too_large}
+use Rattle.file_reports.specs.Reports.{Answer}
+use Rattle.ccac_cli.specs.Reports.{too_large}
 use Rattle.ccac_cli.proofs.OneReplay.{asks_one_of}
 use Rattle.verdict.proofs.SameProblem.{problem_same}
 

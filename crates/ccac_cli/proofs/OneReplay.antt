@@ -1,33 +1,26 @@
 -- The bytes of a controller, a question and a trace have one answer: they mean one controller and one question as these are
 -- seen, and the answer depends on no more.
-use Rattle.std.proofs.Common.{◌≡◌, ℕ, List, ◌∙◌, ap, sym, subst}
-use Rattle.whole.specs.declared.answers.Refusal.{Refusal}
+use Rattle.std.proofs.Common.{◌≡◌, ℕ, List, ◌∙◌, ap, sym}
 use Rattle.run_rows.specs.declared.rows.Run.{Run}
-use Rattle.ctrl_syntax.specs.Sections.{Sections, sections_of}
-use Rattle.ctrl_syntax.specs.declared.syntax.Syntax.{Syntax}
-use Rattle.ctrl_syntax.proofs.Exactness as controllers
-use Rattle.ctrl_types.specs.Resolved.{Resolves}
 use Rattle.ctrl_types.specs.Resolving.{controller_seen}
 use Rattle.ctrl_types.specs.declared.controllers.Controller.{Controller}
 use Rattle.ctrl_types.specs.declared.controllers.State.{State}
-use Rattle.ctrl_types.proofs.SameController.{one_controller}
 use Rattle.question_syntax.specs.Printed.{printed}
-use Rattle.question_text.specs.Resolving.{SeenQuestion, question_seen}
-use Rattle.question_text.specs.Texts.{IsRefused, sections_written}
+use Rattle.question_text.specs.StatementRules.{SeenQuestion, question_seen}
+use Rattle.question_text.specs.Texts.{sections_written}
 use Rattle.question_text.specs.declared.questions.Question.{Question}
-use Rattle.question_text.proofs.SeenLaws.{refused_same, states_same, text_same}
-use Rattle.question_text.proofs.TellingLaws as questions
+use Rattle.question_text.proofs.SeenLaws.{states_same}
 use Rattle.trace_replay.specs.Replaying.{replaying}
 use Rattle.trace_text.proofs.Exactness as traces
 use Rattle.trace_replay.proofs.SeenLaws.{replaying_same}
-use Rattle.asked.specs.Asked.{AreAsked, IsAsked}
-use Rattle.ccac_cli.specs.Asked.{AskRefused, Asks, ask_refused, asked, controller_refused, question_refused}
+use Rattle.asked.specs.Asked.{AreAsked}
+use Rattle.ccac_cli.specs.AskAnswers.{AskRefused, Asks, ask_refused, asked, controller_refused, question_refused}
 use Rattle.ccac_cli.specs.Formats.{QuestionFormat, formatted, question_text}
 use Rattle.ccac_cli.specs.Replays as replays
 use Rattle.ccac_cli.specs.Replays.{ReplayAnswers, RunAnswers}
-use Rattle.ccac_cli.specs.Reports.{Answer, refused, replay_verdict}
-use Rattle.asked.specs.Texts.{IsControllerText}
-use Rattle.ccac_cli.specs.declared.reports.Source.TheVariants.{Controller as ControllerFile, Question as QuestionFile, Trace}
+use Rattle.file_reports.specs.Reports.{Answer, refused}
+use Rattle.ccac_cli.specs.Reports.{replay_verdict}
+use Rattle.file_reports.specs.declared.sources.Source.TheVariants.{Controller as ControllerFile, Question as QuestionFile, Trace}
 use Rattle.asked.proofs.AskingLaws.{one_asked, one_seen, refused_alone, refused_once}
 use Rattle.asked.proofs.ControllerTexts.{one_refusal, not_both}
 use Rattle.ccac_cli.specs.Saved.{behind_verdict}

@@ -4,7 +4,7 @@ use Rattle.std.proofs.Math.ListN.{get_or-map, length-map}
 use Rattle.std.proofs.Math.Path.{fun_ext}
 use Rattle.whole.specs.declared.answers.Stuck.{Stuck}
 use Rattle.condition_tree.specs.Trees.{all_of, opposite}
-use Rattle.weighing.specs.Asked.{asked}
+use Rattle.weighing.specs.Queries.{asked}
 use Rattle.weighing.specs.Claim.{outcome}
 use Rattle.weighing.specs.First.{first}
 use Rattle.claims.specs.Subjects.{in_run}
@@ -17,16 +17,16 @@ use Rattle.ctrl_types.specs.declared.controllers.Controller.{Controller}
 use Rattle.ctrl_meaning.specs.Guards.{test_claim}
 use Rattle.ctrl_meaning.specs.Opening.{opening}
 use Rattle.ctrl_meaning.specs.Steps.{after_guards, differing, fired, firing, sending, sent, set_claim, step, stepping}
-use Rattle.ctrl_meaning.specs.declared.readings.Reading.{Reading}
+use Rattle.ctrl_meaning.specs.declared.readings.ReadPoint.{ReadPoint}
 use Rattle.ctrl_meaning.specs.declared.step.StepHolds.{StepHolds}
 use Rattle.ctrl_meaning.proofs.SeenLaws.{unruled}
 use Rattle.question_text.specs.Conditions.{conjunction}
 use Rattle.question_text.specs.Expressions.{condition_claim}
-use Rattle.question_text.specs.Resolving.{SeenQuestion, question_seen}
+use Rattle.question_text.specs.StatementRules.{SeenQuestion, question_seen}
 use Rattle.question_text.specs.Violation.{rows_of, violation}
 use Rattle.question_text.specs.declared.questions.Question.{Question}
 use Rattle.question_text.proofs.SeenLaws.{unasked}
-use Rattle.trace_replay.specs.Replaying.{Place, fits, obeys, opens, steps, sends, answer, are_stepped, broken_at, found, places, places_of_row}
+use Rattle.trace_replay.specs.Replaying.{ReplayPlace, fits, obeys, opens, steps, sends, answer, are_stepped, broken_at, found, places, places_of_row}
 use Rattle.trace_replay.specs.Replaying.{places_of_rows, replaying, stop_at, weighed_at}
 use Rattle.trace_replay.specs.declared.replaying.Replayed.{Replayed}
 
@@ -44,10 +44,10 @@ rules_seen c = fun_ext (λ k. sym (get_or-map rule_seen c.rules k no_rule))
 rule_count : (c : Controller) → length (controller_seen c).rules ≡ length c.rules
 rule_count c = length-map c.rules rule_seen
 
-abbrev guards_by : (ℕ → SeenRule) → Run → Reading → ℕ → Result Bool Stuck
+abbrev guards_by : (ℕ → SeenRule) → Run → ReadPoint → ℕ → Result Bool Stuck
 guards_by rules r at k = outcome at.row (test_claim (in_run r) at (rules k).guard)
 
-abbrev sets_by : (ℕ → SeenRule) → Run → Reading → ℕ → ℕ → Result Bool Stuck
+abbrev sets_by : (ℕ → SeenRule) → Run → ReadPoint → ℕ → ℕ → Result Bool Stuck
 sets_by rules r at k j = outcome at.row (set_claim (in_run r) at j (get_or (rules k).sets j None))
 
 abbrev step_by : SeenController → Setting → Run → ℕ → ℕ → StepHolds
@@ -56,18 +56,18 @@ step_by x s r row flow =
     (λ k. asked false (sets_by (rule_in x) r (stepping s row flow) k) (length x.states)) (sent (unruled x) r (sending s row flow))
 
 module _ (c : Controller) (r : Run) where
-  fired_seen : (at : Reading) → fired c r at
+  fired_seen : (at : ReadPoint) → fired c r at
       ≡ firing (length (controller_seen c).rules - 1) (asked true (guards_by (rule_in (controller_seen c)) r at) (length (controller_seen c).rules))
   unfolding fired
   fired_seen at =
       ap (λ (rules : ℕ → SeenRule). firing (length c.rules - 1) (asked true (guards_by rules r at) (length c.rules))) (rules_seen c)
       ∙ ap (λ (n : ℕ). firing (n - 1) (asked true (guards_by (rule_in (controller_seen c)) r at) n)) (sym (rule_count c))
 
-  differing_seen : (at : Reading) (k : ℕ) → differing c r at k ≡ asked false (sets_by (rule_in (controller_seen c)) r at k) (length c.states)
+  differing_seen : (at : ReadPoint) (k : ℕ) → differing c r at k ≡ asked false (sets_by (rule_in (controller_seen c)) r at k) (length c.states)
   unfolding differing
   differing_seen at k = ap (λ (rules : ℕ → SeenRule). asked false (sets_by rules r at k) (length c.states)) (rules_seen c)
 
-  sent_seen : (at : Reading) → sent c r at ≡ sent (unruled (controller_seen c)) r at
+  sent_seen : (at : ReadPoint) → sent c r at ≡ sent (unruled (controller_seen c)) r at
   unfolding sent
   sent_seen at = refl
 
@@ -82,14 +82,14 @@ module _ (c : Controller) (r : Run) where
 
 -- ---- what is found first
 
-abbrev weighed_by : SeenController → SeenQuestion → Run → Place → Result Bool Stuck
+abbrev weighed_by : SeenController → SeenQuestion → Run → ReplayPlace → Result Bool Stuck
 weighed_by x y r fits = weighed_at (unruled x) (unasked y) r fits
 weighed_by x y r (obeys p) = weighed_at (unruled x) (unasked y) r (obeys p)
 weighed_by x y r (opens f) = weighed_at (unruled x) (unasked y) r (opens f)
 weighed_by x y r (steps i f) = are_stepped (step_by x y.setting r i f)
 weighed_by x y r (sends i f) = weighed_at (unruled x) (unasked y) r (sends i f)
 
-abbrev found_by : SeenController → SeenQuestion → Run → Place → Result (Unit {0}) Replayed
+abbrev found_by : SeenController → SeenQuestion → Run → ReplayPlace → Result (Unit {0}) Replayed
 found_by x y r place = stop_at (broken_at (unruled x) (unasked y) place) (weighed_by x y r place)
 
 -- what comes of weighing the question
@@ -107,14 +107,14 @@ module _ (c : Controller) (q : Question) (r : Run) where
   unfolding places_of_rows places_of_row
   places_seen = refl
 
-  named_seen : (place : Place) → broken_at c q place ≡ broken_at (unruled (controller_seen c)) (unasked (question_seen q)) place
+  named_seen : (place : ReplayPlace) → broken_at c q place ≡ broken_at (unruled (controller_seen c)) (unasked (question_seen q)) place
   named_seen fits = refl
   named_seen (obeys p) = refl
   named_seen (opens f) = refl
   named_seen (steps i f) = refl
   named_seen (sends i f) = refl
 
-  weighed_seen : (place : Place) → weighed_at c q r place ≡ weighed_by (controller_seen c) (question_seen q) r place
+  weighed_seen : (place : ReplayPlace) → weighed_at c q r place ≡ weighed_by (controller_seen c) (question_seen q) r place
   unfolding weighed_at opening
   weighed_seen fits = refl
   weighed_seen (obeys p) = refl
@@ -122,7 +122,7 @@ module _ (c : Controller) (q : Question) (r : Run) where
   weighed_seen (steps i f) = ap are_stepped (step_seen c r q.setting i f)
   weighed_seen (sends i f) = sent_seen c r (sending q.setting i f)
 
-  found_seen : (place : Place) → found c q r place ≡ found_by (controller_seen c) (question_seen q) r place
+  found_seen : (place : ReplayPlace) → found c q r place ≡ found_by (controller_seen c) (question_seen q) r place
   unfolding found
   found_seen place =
       ap (λ (broken : Replayed). stop_at broken (weighed_at c q r place)) (named_seen place)
@@ -135,8 +135,8 @@ module _ (c : Controller) (q : Question) (r : Run) where
   pub replaying_is_seen : replaying c q r ≡ replaying_seen (controller_seen c) (question_seen q) r
   unfolding replaying
   replaying_is_seen =
-      ap (λ (xs : List Place). answer (first (found c q r) xs) (violation q r)) places_seen
-      ∙ ap (λ (test : Place → Result (Unit {0}) Replayed). answer (first test (places (unruled (controller_seen c)) (unasked (question_seen q)) r)) (violation q r))
+      ap (λ (xs : List ReplayPlace). answer (first (found c q r) xs) (violation q r)) places_seen
+      ∙ ap (λ (test : ReplayPlace → Result (Unit {0}) Replayed). answer (first test (places (unruled (controller_seen c)) (unasked (question_seen q)) r)) (violation q r))
       (fun_ext found_seen)
       ∙ ap (answer (first (found_by (controller_seen c) (question_seen q) r) (places (unruled (controller_seen c)) (unasked (question_seen q)) r)))
       violation_seen

@@ -24,14 +24,13 @@ use Rattle.question_syntax.specs.Sections.{Sections}
 use Rattle.question_syntax.proofs.Exactness as questions
 use Rattle.question_syntax.proofs.SettingLimits.{text_within}
 use Rattle.question_syntax.specs.Printed.{printed as question_printed}
-use Rattle.question_text.specs.Resolving.{SeenQuestion, question_seen}
+use Rattle.question_text.specs.StatementRules.{SeenQuestion, question_seen}
 use Rattle.question_text.specs.Texts as texts
 use Rattle.question_text.specs.Texts.{IsTextOf, sections_written}
 use Rattle.question_text.specs.declared.questions.Question.{Question as Question'}
 use Rattle.question_text.proofs.SeenLaws.{judged_unruled, refused_by, text_by}
 use Rattle.question_text.proofs.TellingLaws as asked
 use Rattle.trace_replay.specs.Replaying.{replaying}
-use Rattle.trace_replay.specs.declared.replaying.Replayed.{Replayed}
 use Rattle.trace_text.specs.Script as trace
 use Rattle.trace_text.specs.Spelling.{IsTraceText}
 use Rattle.trace_text.proofs.Exactness as traces
@@ -45,8 +44,8 @@ use Rattle.asked.specs.Texts.{IsControllerRefused, IsControllerText, MeansContro
 use Rattle.asked.proofs.ControllerTexts.{broken_here, either_controller, one_refusal}
 use Rattle.verdict.specs.Problems.{problem_of}
 use Rattle.ccac_cli.specs.Admitting.{AdmitAnswers, TraceAnswers, trace_refused, examined, question_refused, question_read}
-use Rattle.ccac_cli.specs.Asked as asking
-use Rattle.ccac_cli.specs.Asked.{Asks}
+use Rattle.ccac_cli.specs.AskAnswers as asking
+use Rattle.ccac_cli.specs.AskAnswers.{Asks}
 use Rattle.ccac_cli.specs.Audits as audits
 use Rattle.ccac_cli.specs.Audits.{AuditAnswers, CertAnswers, ProblemAnswers}
 use Rattle.ccac_cli.specs.Checks as checks
@@ -54,13 +53,14 @@ use Rattle.ccac_cli.specs.Checks.{CheckAnswers, VerdictAnswers}
 use Rattle.ccac_cli.specs.Formats.{FormatAnswers, QuestionFormat, controller_refused, controller_put, formatted, question_text}
 use Rattle.ccac_cli.specs.Replays as replays
 use Rattle.ccac_cli.specs.Replays.{ReplayAnswers, RunAnswers}
-use Rattle.ccac_cli.specs.Reports.{Answer, check_report, refused, replay_verdict, too_large, verdict}
+use Rattle.file_reports.specs.Reports.{Answer, refused}
+use Rattle.ccac_cli.specs.Reports.{check_report, replay_verdict, too_large, verdict}
 use Rattle.ccac_cli.specs.Saved.{behind_verdict}
-use Rattle.ccac_cli.specs.SeenAnswers as seen
-use Rattle.ccac_cli.specs.SeenAnswers.{ChecksTo, ComesTo, IsQuestionPut, Pose, SeenAsks, SeenAudit, SeenCert, SeenFormat, SeenPosed, SeenProblem}
-use Rattle.ccac_cli.specs.SeenAnswers.{SeenQuestionFormat, SeenRefusal, SeenReplay, SeenRun, SeenSize, both_mean, first_refused, seen_put, seen_refused}
-use Rattle.ccac_cli.specs.SeenAnswers.{then_refused, unruled}
-use Rattle.ccac_cli.specs.declared.reports.Source.TheVariants.{Controller, Question, Trace, Cert}
+use Rattle.ccac_cli.specs.ViewAnswers as seen
+use Rattle.ccac_cli.specs.ViewAnswers.{ChecksTo, ComesTo, IsQuestionPut, Pose, SeenAsks, SeenAudit, SeenCert, SeenFormat, SeenPosed, SeenProblem}
+use Rattle.ccac_cli.specs.ViewAnswers.{SeenQuestionFormat, SeenRefusal, SeenReplay, SeenRun, SeenSize, both_mean, first_refused, seen_put, seen_refused}
+use Rattle.ccac_cli.specs.ViewAnswers.{then_refused, unruled}
+use Rattle.file_reports.specs.declared.sources.Source.TheVariants.{Controller, Question, Trace, Cert}
 use Rattle.ccac_cli.proofs.OneAudit.{verdict_by, verdict_is}
 use Rattle.verdict.proofs.SameProblem.{problem_is_seen, problem_seen}
 use Rattle.ccac_cli.proofs.SeenReplays.{replaying_is_seen, replaying_seen}

@@ -8,10 +8,11 @@ use Rattle.path_server.specs.declared.settings.Setting.{Setting}
 use Rattle.trace_text.specs.Script.{IsRefused}
 use Rattle.trace_text.specs.Spelling.{IsTraceText}
 use Rattle.question_syntax.specs.Refused as question
-use Rattle.ccac_cli.specs.Reports.{Answer, refused, verdict}
+use Rattle.file_reports.specs.Reports.{Answer, refused}
+use Rattle.ccac_cli.specs.Reports.{verdict}
 use Rattle.ccac_cli.specs.Saved.{behind_verdict}
 use Rattle.ccac_cli.specs.Texts.{IsSettingText}
-use Rattle.ccac_cli.specs.declared.reports.Source.TheVariants.{Question, Trace}
+use Rattle.file_reports.specs.declared.sources.Source.TheVariants.{Question, Trace}
 
 -- the one answer to a trace, on the path of a setting
 pub data TraceAnswers (s : Setting) (trace : List ℕ) : Answer → Type 0 where

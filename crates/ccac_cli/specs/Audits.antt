@@ -12,10 +12,11 @@ use Rattle.cert_check.specs.Verdicts.{verdict}
 use Rattle.cert_text.specs.Rules.{IsRefused}
 use Rattle.cert_text.specs.Spelling.{IsCertText, certificate}
 use Rattle.verdict.specs.Problems.{problem_of}
-use Rattle.ccac_cli.specs.Asked.{Asks}
-use Rattle.ccac_cli.specs.Reports.{Answer, check_report, refused, too_large}
+use Rattle.ccac_cli.specs.AskAnswers.{Asks}
+use Rattle.file_reports.specs.Reports.{Answer, refused}
+use Rattle.ccac_cli.specs.Reports.{check_report, too_large}
 use Rattle.ccac_cli.specs.Saved.{behind_verdict}
-use Rattle.ccac_cli.specs.declared.reports.Source.TheVariants.{Cert as CertFile}
+use Rattle.file_reports.specs.declared.sources.Source.TheVariants.{Cert as CertFile}
 
 -- the one answer to a certificate's file, about a problem
 pub data CertAnswers (problem : Clauses) (file : List ℕ) : Answer → Type 0 where

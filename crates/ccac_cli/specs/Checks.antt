@@ -27,8 +27,9 @@ use Rattle.verdict.specs.Judging.{Says}
 use Rattle.verdict.specs.Problems.{IsProblemOf, problem_of}
 use Rattle.verdict.specs.declared.judging.Verdict.{Verdict}
 use Rattle.verdict.specs.declared.judging.Verdict.TheVariants.{Violated, Verified, Budget, Wide}
-use Rattle.ccac_cli.specs.Asked.{Asks}
-use Rattle.ccac_cli.specs.Reports.{Answer, too_large}
+use Rattle.ccac_cli.specs.AskAnswers.{Asks}
+use Rattle.file_reports.specs.Reports.{Answer}
+use Rattle.ccac_cli.specs.Reports.{too_large}
 
 -- ---- the reports
 

@@ -6,13 +6,13 @@ use Rattle.ctrl_syntax.specs.Sections.{sections_of}
 use Rattle.ctrl_syntax.specs.declared.syntax.Syntax.{Syntax}
 use Rattle.ctrl_types.specs.declared.controllers.Controller.{Controller}
 use Rattle.question_syntax.specs.Printed as questions
-use Rattle.question_text.specs.Resolving.{question_seen}
+use Rattle.question_text.specs.StatementRules.{question_seen}
 use Rattle.question_text.specs.Texts.{sections_written}
 use Rattle.question_text.specs.declared.questions.Question.{Question}
-use Rattle.ccac_cli.specs.Asked.{Asks}
-use Rattle.ccac_cli.specs.Reports.{Answer, refused}
+use Rattle.ccac_cli.specs.AskAnswers.{Asks}
+use Rattle.file_reports.specs.Reports.{Answer, refused}
 use Rattle.asked.specs.Texts.{IsControllerRefused, IsControllerText}
-use Rattle.ccac_cli.specs.declared.reports.Source.TheVariants.{Controller as ControllerFile}
+use Rattle.file_reports.specs.declared.sources.Source.TheVariants.{Controller as ControllerFile}
 
 -- a text that is put whole
 abbrev pub formatted : List ℕ → Answer

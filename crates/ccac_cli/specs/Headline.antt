@@ -30,10 +30,11 @@ use Rattle.verdict.specs.Judging.{IsWide}
 use Rattle.verdict.specs.Problems.{IsProblemOf, NoneViolates, problem_of}
 use Rattle.ccac_ports.specs.Ports.{Told}
 use Rattle.ccac_cli.specs.Checks.{budget_line, wide_line}
-use Rattle.ccac_cli.specs.Fetched.{FetchEnds, IsFetched}
+use Rattle.file_reports.specs.Fetched.{FetchEnds, IsFetched}
 use Rattle.ccac_cli.specs.Named.{NamesController, NamesQuestion}
-use Rattle.ccac_cli.specs.Reports.{Answer, refused, too_large}
-use Rattle.ccac_cli.specs.declared.reports.Source.TheVariants.{Controller as ControllerFile, Question as QuestionFile}
+use Rattle.file_reports.specs.Reports.{Answer, refused}
+use Rattle.ccac_cli.specs.Reports.{too_large}
+use Rattle.file_reports.specs.declared.sources.Source.TheVariants.{Controller as ControllerFile, Question as QuestionFile}
 
 module _ (c : Controller) (q : Question) where
   -- "a trace that is a run of the controller's flows on an admitted path and violates the question": the bytes are the text of a run
@@ -68,14 +69,14 @@ module _ (c : Controller) (q : Question) where
     pub all_spent : IsSpent problem q.setting.budget spent
 
   -- "a named exact number past 128 bits": the bytes are such a journal, legal and with at most as many charged moves as the budget, and
-  -- the operation is one of those after it and passes 128 bits: in carrying out its last move, at the corner that it reaches, in the
+  -- the operation is one of those after it and overflows 128 bits: in carrying out its last move, at the corner that it reaches, in the
   -- values of a total assignment, or in weighing the run of these values (IsWide)
   pub record IsWideJournal (stuck : Stuck) (bytes : List ℕ) : Type 0 where
     pub problem : Problem
     pub posed : IsProblemOf c q problem
     pub spent : Spent
     pub text_is : bytes ≡ text (journal_lines spent.journal.moves)
-    pub passes : IsWide c q problem stuck spent
+    pub overflows : IsWide c q problem stuck spent
 
 -- "for every two files that the folder gives, `check` prints"
 pub data Headline (old new : Told) (c q : List ℕ) : Answer → Type 0 where

@@ -15,10 +15,10 @@ use Rattle.asked.specs.Asked.{IsAsked}
 use Rattle.asked.specs.Texts.{IsControllerText}
 use Rattle.verdict.specs.Problems.{problem_of}
 use Rattle.ccac_ports.specs.Ports.{Told}
-use Rattle.ccac_cli.specs.Fetched.{IsFetched}
+use Rattle.file_reports.specs.Fetched.{IsFetched}
 use Rattle.ccac_cli.specs.Saved.{behind_verdict}
 use Rattle.ccac_cli.specs.Texts.{IsSettingText}
-use Rattle.ccac_cli.specs.declared.reports.Source.TheVariants.{Controller as ControllerFile, Question as QuestionFile, Trace, Cert as CertFile}
+use Rattle.file_reports.specs.declared.sources.Source.TheVariants.{Controller as ControllerFile, Question as QuestionFile, Trace, Cert as CertFile}
 
 -- a controller under this name
 pub record NamesController (folder : Told) (name : List ℕ) : Type 0 where

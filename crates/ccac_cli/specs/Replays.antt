@@ -9,10 +9,11 @@ use Rattle.question_text.specs.declared.questions.Question.{Question}
 use Rattle.trace_text.specs.Script.{IsRefused}
 use Rattle.trace_text.specs.Spelling.{IsTraceText}
 use Rattle.trace_replay.specs.Replaying.{replaying}
-use Rattle.ccac_cli.specs.Asked.{Asks}
-use Rattle.ccac_cli.specs.Reports.{Answer, refused, replay_verdict}
+use Rattle.ccac_cli.specs.AskAnswers.{Asks}
+use Rattle.file_reports.specs.Reports.{Answer, refused}
+use Rattle.ccac_cli.specs.Reports.{replay_verdict}
 use Rattle.ccac_cli.specs.Saved.{behind_verdict}
-use Rattle.ccac_cli.specs.declared.reports.Source.TheVariants.{Trace}
+use Rattle.file_reports.specs.declared.sources.Source.TheVariants.{Trace}
 
 -- the one answer to a trace, where a controller is asked a question
 pub data RunAnswers (trace : List ℕ) (c : Controller) (q : Question) : Answer → Type 0 where

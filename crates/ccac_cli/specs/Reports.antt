@@ -1,7 +1,6 @@
--- The reports: a status, and a text of one line.
-use Rattle.std.specs.Prelude.{◌≡◌, ℕ, List, ◌++◌, codes, encode_utf8}
+-- The reports of the commands: a status, and a text of one line.
+use Rattle.std.specs.Prelude.{◌≡◌, ℕ, List, ◌++◌, codes}
 use Rattle.std.specs.Fmt.{decimal}
-use Rattle.whole.specs.declared.answers.Refusal.{Refusal}
 use Rattle.whole.specs.declared.answers.Stuck.{Stuck}
 use Rattle.path_server.specs.declared.admission.Admit.{Admit}
 use Rattle.path_server.specs.declared.admission.Admit.TheVariants.{Yes, Broken, Wide}
@@ -15,42 +14,7 @@ use Rattle.cert_check.specs.Answers.{named}
 use Rattle.cert_check.specs.Verdicts.{Verdict, proved, fails, wide as wide_at}
 use Rattle.cert_check.specs.declared.found.Checked.{Checked}
 use Rattle.cert_check.specs.declared.found.Checked.TheVariants.{Proved, Fails, Wide as WideSum, NoMemory}
-use Rattle.ccac_cli.specs.declared.reports.Source.{Source}
-use Rattle.ccac_cli.specs.declared.reports.Source.TheVariants.{Controller, Question, Trace, Cert}
-
-pub record Answer : Type 0 where
-  pub status : ℕ
-  pub text : List ℕ
-
--- the word for a file in a report
-abbrev pub word_of : Source → List ℕ
-word_of Controller = codes "controller"
-word_of Question = codes "question"
-word_of Trace = codes "trace"
-word_of Cert = codes "cert"
-
--- how many bytes it may have
-abbrev pub limit_of : Source → ℕ
-limit_of Controller = 65536
-limit_of Question = 65536
-limit_of Trace = 262144
-limit_of Cert = 268435456
-
-unfoldable pub usage : Answer
-usage = record { status = 4; text = codes "usage\n" }
-
-unfoldable pub read_fault : Source → Answer
-read_fault source = record { status = 5; text = codes "read fault " ++ (word_of source ++ codes "\n") }
-
-unfoldable pub too_long : Source → Answer
-too_long source = record { status = 3; text = codes "refused " ++ (word_of source ++ codes " too long\n") }
-
-unfoldable pub refused : Source → Refusal → Answer
-refused source refusal = record {
-  status = 3;
-  text = codes "refused " ++ (word_of source ++ (codes " " ++ (encode_utf8 refusal.letter ++ (decimal refusal.number
-      ++ (codes " line " ++ (decimal refusal.line ++ codes "\n"))))));
-}
+use Rattle.file_reports.specs.Reports.{Answer}
 
 -- what of a problem there is too much of
 abbrev pub size_word : What → List ℕ
@@ -98,7 +62,7 @@ unproved lemma node cause = record {
   text = codes "fails lemma " ++ (decimal lemma ++ (codes " node " ++ (decimal node ++ (codes " cause K" ++ (decimal cause ++ codes "\n")))));
 }
 
--- the place at which a sum of a certificate passes 128 bits
+-- the place at which a sum of a certificate overflows 128 bits
 unfoldable pub wide_sum : ℕ → ℕ → ℕ → Answer
 wide_sum lemma node column = record {
   status = 2;

@@ -1,16 +1,20 @@
 ghost use Rattle.std.specs.Prelude.{◌<◌, ◌-◌, ◌^◌, length, IfOk, IfErr};
 ghost use Rattle.asked.specs.Asked.{AreAsked};
-ghost use Rattle.ccac_cli.specs.Asked.{AskRefused};
-ghost use Rattle.ccac_cli.specs.Halted.{HaltsAs, HaltsAsAsked, HaltsBy};
+ghost use Rattle.ccac_cli.specs.AskAnswers.{AskRefused};
+ghost use Rattle.file_reports.specs.Halted.{HaltsBy};
+ghost use Rattle.ccac_cli.specs.Halted.{HaltsAsAsked};
 
-use crate::fetching::Halt;
-use crate::reports::{Report, Source};
 use asked::{AskFault, Asked, ask};
+use file_reports::{EarlyEnd, Source, halted};
 use std::alloc::Global;
 use whole::ReadFault;
 
 /// The controller and the question whose texts these are, or the report on the first that is refused.
-pub(crate) fn read_asked(alloc: Global, controller: &[u8], question: &[u8]) -> Result<Asked, Halt>
+pub(crate) fn read_asked(
+    alloc: Global,
+    controller: &[u8],
+    question: &[u8],
+) -> Result<Asked, EarlyEnd>
     requires controller_in { length controller.now < 2 ^ 32 - 1 }
     requires question_in { length question.now < 2 ^ 32 - 1 }
     ensures found { IfOk result (λ asked. AreAsked controller.now question.now asked.controller asked.question) }
@@ -23,7 +27,7 @@ pub(crate) fn read_asked(alloc: Global, controller: &[u8], question: &[u8]) -> R
 }
 
 /// How a command ends where its controller or its question is refused.
-fn unasked(alloc: Global, fault: AskFault) -> Halt
+fn unasked(alloc: Global, fault: AskFault) -> EarlyEnd
     ensures { HaltsAsAsked fault result }
 {
     match fault {
@@ -33,19 +37,6 @@ fn unasked(alloc: Global, fault: AskFault) -> Halt
         AskFault::Question(refusal) => {
             halted(alloc, Source::Question, ReadFault::Refused(refusal))
         }
-        AskFault::NoMemory => Halt::NoMemory,
-    }
-}
-
-/// How a command ends one of whose files wasn't read.
-pub(crate) fn halted(alloc: Global, source: Source, fault: ReadFault) -> Halt
-    ensures { HaltsAs source fault result }
-{
-    match fault {
-        ReadFault::Refused(refusal) => match Report::refused(alloc, source, refusal) {
-            Ok(report) => Halt::Report(report),
-            Err(_) => Halt::NoMemory,
-        },
-        ReadFault::NoMemory => Halt::NoMemory,
+        AskFault::NoMemory => EarlyEnd::NoMemory,
     }
 }

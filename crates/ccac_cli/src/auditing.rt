@@ -3,16 +3,16 @@ ghost use Rattle.clause_form.specs.WellFormed.{IsWellFormed};
 ghost use Rattle.ctrl_types.specs.Limits.{IsController};
 ghost use Rattle.question_text.specs.Limits.{IsQuestion};
 ghost use Rattle.ccac_cli.specs.Audits.{AuditAnswers, CertAnswers, ProblemAnswers};
-ghost use Rattle.ccac_cli.specs.Halted.{Replies};
+ghost use Rattle.file_reports.specs.Halted.{Replies};
 
-use crate::asking::{halted, read_asked};
-use crate::fetching::Halt;
-use crate::reports::{Report, Source};
+use crate::asking::read_asked;
+use crate::reports::{audit_report, size_report};
 use crate::saved::behind_verdict;
 use asked::Asked;
 use cert_check::check;
 use cert_text::read_cert;
 use clause_form::{BuildFault, Clauses};
+use file_reports::{EarlyEnd, Report, Source, halted};
 use std::alloc::Global;
 use unroll::unroll;
 
@@ -23,7 +23,7 @@ pub(crate) fn audit(
     controller: &[u8],
     question: &[u8],
     cert: &[u8],
-) -> Result<Report, Halt>
+) -> Result<Report, EarlyEnd>
     requires controller_in { length controller.now < 2 ^ 32 - 1 }
     requires question_in { length question.now < 2 ^ 32 - 1 }
     requires cert_in { length cert.now < 2 ^ 32 - 1 }
@@ -37,7 +37,7 @@ pub(crate) fn audit(
 }
 
 /// The report on a certificate, where a controller is asked a question.
-fn audit_problem(alloc: Global, asked: &Asked, cert: &[u8]) -> Result<Report, Halt>
+fn audit_problem(alloc: Global, asked: &Asked, cert: &[u8]) -> Result<Report, EarlyEnd>
     requires controller_in { IsController asked.now.controller }
     requires question_in { IsQuestion (length asked.now.controller.states) asked.now.question }
     requires cert_in { length cert.now < 2 ^ 32 - 1 }
@@ -45,19 +45,19 @@ fn audit_problem(alloc: Global, asked: &Asked, cert: &[u8]) -> Result<Report, Ha
 {
     match unroll(alloc, &asked.controller, &asked.question) {
         Ok(problem) => audit_cert(alloc, &problem.clauses, cert),
-        Err(BuildFault::Large { what, limit }) => Ok(Report::too_large(alloc, what, limit)?),
-        Err(BuildFault::NoMemory) => Err(Halt::NoMemory),
+        Err(BuildFault::Large { what, limit }) => Ok(size_report(alloc, what, limit)?),
+        Err(BuildFault::NoMemory) => Err(EarlyEnd::NoMemory),
     }
 }
 
 /// The report on a certificate, about a problem.
-fn audit_cert(alloc: Global, problem: &Clauses, cert: &[u8]) -> Result<Report, Halt>
+fn audit_cert(alloc: Global, problem: &Clauses, cert: &[u8]) -> Result<Report, EarlyEnd>
     requires formed { IsWellFormed problem.now }
     requires cert_in { length cert.now < 2 ^ 32 - 1 }
     ensures { Replies (CertAnswers problem.now cert.now) result }
 {
     match read_cert(alloc, behind_verdict(cert)) {
-        Ok(cert) => Ok(Report::check_report(alloc, check(alloc, problem, &cert))?),
+        Ok(cert) => Ok(audit_report(alloc, check(alloc, problem, &cert))?),
         Err(fault) => Err(halted(alloc, Source::Cert, fault)),
     }
 }

@@ -1,19 +1,18 @@
 ghost use Rattle.std.specs.Prelude.{◌≡◌, ◌++◌, ◌<◌, ◌-◌, ◌^◌, length, IfOk, string_bytes};
 ghost use Rattle.ccac_cli.specs.Checks.{CheckAnswers, IsPrintable, op_word, operation_items, pair_items, place_word, verdict_report, wide_line};
-ghost use Rattle.ccac_cli.specs.Halted.{Replies};
-ghost use Rattle.ccac_cli.specs.Shown.{shown};
+ghost use Rattle.file_reports.specs.Halted.{Replies};
+ghost use Rattle.file_reports.specs.Shown.{shown};
 
-use crate::asking::halted;
-use crate::fetching::Halt;
-use crate::reports::{Report, Source};
+use crate::reports::size_report;
 use cert_text::{print_cert, print_journal};
+use file_reports::{EarlyEnd, Report, Source, halted};
 use std::alloc::{AllocError, Global};
 use trace_text::print_trace;
 use verdict::{JudgeFault, Verdict, judge};
 use whole::{NoMemory, Op, Pair, Place, ReadFault, Stuck};
 
 /// The report on a controller and a question: the two texts are read in this order, and the question is decided.
-pub(crate) fn check(alloc: Global, controller: &[u8], question: &[u8]) -> Result<Report, Halt>
+pub(crate) fn check(alloc: Global, controller: &[u8], question: &[u8]) -> Result<Report, EarlyEnd>
     requires controller_in { length controller.now < 2 ^ 32 - 1 }
     requires question_in { length question.now < 2 ^ 32 - 1 }
     ensures { Replies (CheckAnswers controller.now question.now) result }
@@ -28,8 +27,8 @@ pub(crate) fn check(alloc: Global, controller: &[u8], question: &[u8]) -> Result
             let fault = ReadFault::Refused(refusal);
             Err(halted(alloc, Source::Question, fault))
         }
-        Err(JudgeFault::Large { what, limit }) => Ok(Report::too_large(alloc, what, limit)?),
-        Err(JudgeFault::NoMemory) => Err(Halt::NoMemory),
+        Err(JudgeFault::Large { what, limit }) => Ok(size_report(alloc, what, limit)?),
+        Err(JudgeFault::NoMemory) => Err(EarlyEnd::NoMemory),
     }
 }
 
@@ -73,7 +72,7 @@ fn headed(alloc: Global, status: u8, line: &str, text: Vec<u8>) -> Result<Report
     })
 }
 
-/// The line that names an operation whose result passes 128 bits.
+/// The line that names an operation whose result overflows 128 bits.
 #[tactic(auto, unfolding(crate::specs::Checks::wide_line))]
 fn wide_line(alloc: Global, stuck: &Stuck) -> Result<String, AllocError>
     ensures { IfOk result (λ line. string_bytes line ≡ wide_line stuck.now) }

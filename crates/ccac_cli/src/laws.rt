@@ -15,8 +15,8 @@ ghost use Rattle.ccac_cli.specs.Commands.{Order};
 ghost use Rattle.ccac_cli.specs.Ended.{ToldAnswers};
 ghost use Rattle.ccac_cli.specs.Formats.{FormatAnswers, QuestionFormat};
 ghost use Rattle.ccac_cli.specs.Replays.{ReplayAnswers};
-ghost use Rattle.ccac_cli.specs.Reports.{Answer};
-ghost use Rattle.ccac_cli.specs.SeenAnswers.{SeenAudit, SeenFormat, SeenPosed, SeenQuestionFormat, SeenRefusal, SeenReplay};
+ghost use Rattle.file_reports.specs.Reports.{Answer};
+ghost use Rattle.ccac_cli.specs.ViewAnswers.{SeenAudit, SeenFormat, SeenPosed, SeenQuestionFormat, SeenRefusal, SeenReplay};
 ghost use Rattle.asked.specs.Texts.{IsControllerRefused, IsControllerText, MeansController};
 
 /// The canonical text of a controller stays as it is: whatever it spells has that canonical text. (Of a question this is

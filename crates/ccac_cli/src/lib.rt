@@ -6,7 +6,6 @@ mod asking;
 mod auditing;
 mod checking;
 mod commands;
-mod fetching;
 mod formatting;
 mod laws;
 mod replaying;
@@ -16,5 +15,6 @@ mod saved;
 #[cfg(test)]
 mod tests;
 
+pub use commands::{COMMANDS, Command, Entry};
 pub use laws::{canonical_texts_stay, controller_texts_are_told_apart, one_answer, some_answer};
 pub use running::run;

@@ -7,7 +7,7 @@ use Rattle.clause_form.specs.declared.clauses.Clauses.{Clauses}
 use Rattle.clause_form.specs.WellFormed.{IsGoodForm, IsWellFormed}
 use Rattle.cert_check.specs.declared.found.Checked.{Checked}
 use Rattle.cert_check.specs.declared.found.Checked.TheVariants.{Proved, Fails, Wide, NoMemory}
-use Rattle.cert_check.specs.Answers.{named, answer_of, IsAnswer, SaysProved, SaysFailed, SaysPassed}
+use Rattle.cert_check.specs.Answers.{named, answer_of, IsAnswer, SaysProved, SaysFailed, SaysOverflowed}
 use Rattle.cert_check.specs.NoModel.{TermsBelow, HasColumnsBelow, HasNoModel}
 use Rattle.cert_check.specs.Verdicts.{Verdict, proved, fails, wide, verdict}
 use Rattle.cert_check.proofs.NoModel.{no_model}
@@ -63,11 +63,11 @@ says_failed c cert result is = record {
   always = λ some l n k first. let law = each_has_a_verdict c cert in answered result (answer_of (verdict c cert)) is some ∙ ap answer_of ((law.failed l n k).1 first);
 }
 
-pub says_passed : (c : Clauses) (cert : Cert) (result : Checked) → IsAnswer result (answer_of (verdict c cert)) → SaysPassed c cert result
+pub says_overflowed : (c : Clauses) (cert : Cert) (result : Checked) → IsAnswer result (answer_of (verdict c cert)) → SaysOverflowed c cert result
 unfolding answer_of
-says_passed c cert result is = record {
-  only = λ l n k same. let v = is_wide (verdict c cert) l n k (answers result (Wide l n k) (answer_of (verdict c cert)) is same (λ e. cc)) in let law = each_has_a_verdict c cert in (v.0, v.1, v.2, v.3, (law.passed v.0 v.1 k).0 v.4);
-  always = λ some l n k first. let law = each_has_a_verdict c cert in answered result (answer_of (verdict c cert)) is some ∙ ap answer_of ((law.passed l n k).1 first);
+says_overflowed c cert result is = record {
+  only = λ l n k same. let v = is_wide (verdict c cert) l n k (answers result (Wide l n k) (answer_of (verdict c cert)) is same (λ e. cc)) in let law = each_has_a_verdict c cert in (v.0, v.1, v.2, v.3, (law.overflowed v.0 v.1 k).0 v.4);
+  always = λ some l n k first. let law = each_has_a_verdict c cert in answered result (answer_of (verdict c cert)) is some ∙ ap answer_of ((law.overflowed l n k).1 first);
 }
 
 pub equal_answer : (result answer : Checked) → result ≡ answer → IsAnswer result answer

@@ -17,7 +17,7 @@ use Rattle.clause_form.specs.declared.clauses.Atom.{Atom}
 use Rattle.clause_form.specs.declared.clauses.Clauses.{Clauses}
 use Rattle.clause_form.specs.Derivations.{Rows, rows_of, LitRow, row_of_atom, row_of, coef_sum, bound_sum, Has, HasAtom, ArePartsOf, HasStrict, IsContradiction, IsFalseOn, Closes, NamesOnce, Follow, EndsEmpty, Proves, running_sum}
 use Rattle.cert_check.specs.declared.found.Found.{Found}
-use Rattle.cert_check.specs.declared.found.Found.TheVariants.{Sound, Breaks, Passes}
+use Rattle.cert_check.specs.declared.found.Found.TheVariants.{Sound, Breaks, Overflows}
 use Rattle.cert_check.specs.Causes.{then_ask, asked, truth_on, is_sign, is_on_path, is_free, of_part, of_parts, number_at, of_sum, of_sums, of_rows, cancel_below, is_strict, some_strict, is_impossible, is_contradiction, of_leaf, is_false_on, of_cited, of_split, founds, names_once, Event, numbered, lemma_events, has_sizes, is_empty, end_event, events}
 use Rattle.cert_check.specs.Verdicts.{EachFound, IsSound, StaysWithin}
 use Rattle.cert_check.proofs.FirstLaws.{Each, Each-append, EachFound-append, EachFound-numbered}
@@ -30,7 +30,7 @@ both a b = a && b
 pub then_sound : (a b : Found) → then_ask a b ≡ Sound → (a ≡ Sound) × (b ≡ Sound)
 then_sound Sound b e = (refl, e)
 then_sound (Breaks k) b e = absurd (cc)
-then_sound (Passes k) b e = absurd (cc)
+then_sound (Overflows k) b e = absurd (cc)
 
 pub asked_sound : (k : ℕ) (test : Bool) → asked k test ≡ Sound → test ≡ true
 asked_sound k true e = refl
@@ -292,7 +292,7 @@ of_sum-breaks column (Some z) k e = cc
 then_breaks : (a b : Found) (k : ℕ) → then_ask a b ≡ Breaks k → (a ≡ Breaks k → ⊥) → (b ≡ Breaks k → ⊥) → ⊥
 then_breaks Sound b k e p q = q e
 then_breaks (Breaks j) b k e p q = p e
-then_breaks (Passes j) b k e p q = cc
+then_breaks (Overflows j) b k e p q = cc
 
 of_sums-breaks : (c : Rows) (ps : List Part) (n k : ℕ) → of_sums c ps n ≡ Breaks k → ⊥
 of_sums-breaks c ps zero k e = cc
@@ -300,10 +300,10 @@ of_sums-breaks c ps (suc n) k e =
     then_breaks (of_sums c ps n) (of_sum n (running_sum c (number_at c n) (pos 0) ps)) k e (of_sums-breaks c ps n k) (of_sum-breaks n (running_sum c (number_at c n) (pos 0) ps) k)
 
 -- at sums only passing is found
-only_passes : (found next : Found) → ((k : ℕ) → found ≡ Breaks k → ⊥) → StaysWithin (then_ask found next) → found ≡ Sound
-only_passes Sound next never within = refl
-only_passes (Breaks k) next never within = absurd (never k refl)
-only_passes (Passes k) next never within = absurd (within k refl)
+only_overflows : (found next : Found) → ((k : ℕ) → found ≡ Breaks k → ⊥) → StaysWithin (then_ask found next) → found ≡ Sound
+only_overflows Sound next never within = refl
+only_overflows (Breaks k) next never within = absurd (never k refl)
+only_overflows (Overflows k) next never within = absurd (within k refl)
 
 -- ---- nodes
 
@@ -329,7 +329,7 @@ contradiction-of_leaf c path once ps is within =
     let contradicts = is_contradiction-all c path ps is.rows in
     let sound_parts : of_parts c path ps ≡ Sound = parts.1 is.rows in
     let later : then_ask (of_parts c path ps) (then_ask sums last) ≡ then_ask sums last = ap (λ f. then_ask f (then_ask sums last)) sound_parts in
-    let sound_sums : sums ≡ Sound = only_passes sums last (of_sums-breaks c ps (suc c.columns)) (subst StaysWithin later within) in
+    let sound_sums : sums ≡ Sound = only_overflows sums last (of_sums-breaks c ps (suc c.columns)) (subst StaysWithin later within) in
     later ∙ ap (λ f. then_ask f last) sound_sums ∙ sound_asked 3 (is_contradiction c ps) (contradicts.1 is)
 
 of_cited-false : (atoms : ℕ) (path : List Lit) → NamesOnce atoms path → (cited : Option (List Lit)) → (of_cited path cited ≡ Sound) ↔ ((lits : List Lit) × (cited ≡ Some lits) × IsFalseOn path lits)

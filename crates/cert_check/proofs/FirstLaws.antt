@@ -1,7 +1,7 @@
 -- The first event of an ordered list at which something is found.
 use Rattle.std.proofs.Common.{◌≡◌, ◌≢◌, ◌↔◌, ℕ, suc, List, [], ◌∷◌, ◌++◌, refl, sym, ◌∙◌, ap, subst}
 use Rattle.cert_check.specs.declared.found.Found.{Found}
-use Rattle.cert_check.specs.declared.found.Found.TheVariants.{Sound, Breaks, Passes}
+use Rattle.cert_check.specs.declared.found.Found.TheVariants.{Sound, Breaks, Overflows}
 use Rattle.cert_check.specs.Causes.{Event, numbered}
 use Rattle.cert_check.specs.Verdicts.{Verdict, proved, fails, wide, verdict_at, first_of, EachFound, IsSound, IsFirst}
 
@@ -37,7 +37,7 @@ sound_first (e ∷ es) all = ap (λ f. verdict_at e.lemma e.node f (first_of es)
 proved_step : (lemma node : ℕ) (found : Found) (rest : Verdict) → verdict_at lemma node found rest ≡ proved → (found ≡ Sound) × (rest ≡ proved)
 proved_step lemma node Sound rest e = (refl, e)
 proved_step lemma node (Breaks cause) rest e = absurd (cc)
-proved_step lemma node (Passes column) rest e = absurd (cc)
+proved_step lemma node (Overflows column) rest e = absurd (cc)
 
 pub first_sound : (es : List Event) → first_of es ≡ proved → EachFound IsSound es
 first_sound [] e = tt
@@ -58,7 +58,7 @@ skip (e ∷ es) rest all = ap (λ f. verdict_at e.lemma e.node f (first_of (es +
 unskipped : (lemma node : ℕ) (found : Found) (rest : Verdict) → found ≢ Sound → verdict_at lemma node found rest ≡ verdict_at lemma node found proved
 unskipped lemma node Sound rest some = absurd (some refl)
 unskipped lemma node (Breaks cause) rest some = refl
-unskipped lemma node (Passes column) rest some = refl
+unskipped lemma node (Overflows column) rest some = refl
 
 pub IsFirst-verdict : (es : List Event) (e : Event) → IsFirst es e → first_of es ≡ verdict_of e
 IsFirst-verdict es e first =
@@ -81,8 +81,8 @@ first_later x es e is first = record {
 abbrev pub failing : ℕ → ℕ → ℕ → Event
 failing lemma node cause = record { lemma = lemma; node = node; found = Breaks cause }
 
-abbrev pub passing : ℕ → ℕ → ℕ → Event
-passing lemma node column = record { lemma = lemma; node = node; found = Passes column }
+abbrev pub overflowing : ℕ → ℕ → ℕ → Event
+overflowing lemma node column = record { lemma = lemma; node = node; found = Overflows column }
 
 fails_first : (es : List Event) (l n k : ℕ) → first_of es ≡ fails l n k → IsFirst es (failing l n k)
 fails_first [] l n k v = absurd (cc)
@@ -95,26 +95,26 @@ fails_first (x ∷ es) l n k v = by x.lemma x.node x.found v (fails_first es l n
         let p : l ≡ lemma = cc in let q : n ≡ node = cc in let r : k ≡ cause = cc in
         let same : failing l n k ≡ failing lemma node cause = ap (λ x. failing x n k) p ∙ ap (λ x. failing lemma x k) q ∙ ap (failing lemma node) r in
         subst (λ (e : Event). IsFirst (e ∷ es) (failing l n k)) same (first_here (failing l n k) es (λ e. cc))
-    by lemma node (Passes column) v rest = absurd (cc)
+    by lemma node (Overflows column) v rest = absurd (cc)
 
-passes_first : (es : List Event) (l n k : ℕ) → first_of es ≡ wide l n k → IsFirst es (passing l n k)
-passes_first [] l n k v = absurd (cc)
-passes_first (x ∷ es) l n k v = by x.lemma x.node x.found v (passes_first es l n k)
+overflows_first : (es : List Event) (l n k : ℕ) → first_of es ≡ wide l n k → IsFirst es (overflowing l n k)
+overflows_first [] l n k v = absurd (cc)
+overflows_first (x ∷ es) l n k v = by x.lemma x.node x.found v (overflows_first es l n k)
   where
-    by : (lemma node : ℕ) (found : Found) → verdict_at lemma node found (first_of es) ≡ wide l n k → (first_of es ≡ wide l n k → IsFirst es (passing l n k)) → IsFirst (record { lemma = lemma; node = node; found = found } ∷ es) (passing l n k)
+    by : (lemma node : ℕ) (found : Found) → verdict_at lemma node found (first_of es) ≡ wide l n k → (first_of es ≡ wide l n k → IsFirst es (overflowing l n k)) → IsFirst (record { lemma = lemma; node = node; found = found } ∷ es) (overflowing l n k)
     by lemma node Sound v rest =
-        first_later (record { lemma = lemma; node = node; found = Sound }) es (passing l n k) refl (rest v)
+        first_later (record { lemma = lemma; node = node; found = Sound }) es (overflowing l n k) refl (rest v)
     by lemma node (Breaks cause) v rest = absurd (cc)
-    by lemma node (Passes column) v rest =
+    by lemma node (Overflows column) v rest =
         let p : l ≡ lemma = cc in let q : n ≡ node = cc in let r : k ≡ column = cc in
-        let same : passing l n k ≡ passing lemma node column = ap (λ x. passing x n k) p ∙ ap (λ x. passing lemma x k) q ∙ ap (passing lemma node) r in
-        subst (λ (e : Event). IsFirst (e ∷ es) (passing l n k)) same (first_here (passing l n k) es (λ e. cc))
+        let same : overflowing l n k ≡ overflowing lemma node column = ap (λ x. overflowing x n k) p ∙ ap (λ x. overflowing lemma x k) q ∙ ap (overflowing lemma node) r in
+        subst (λ (e : Event). IsFirst (e ∷ es) (overflowing l n k)) same (first_here (overflowing l n k) es (λ e. cc))
 
 pub first_fails : (es : List Event) (l n k : ℕ) → (first_of es ≡ fails l n k) ↔ IsFirst es (failing l n k)
 first_fails es l n k = (fails_first es l n k, IsFirst-verdict es (failing l n k))
 
-pub first_wide : (es : List Event) (l n k : ℕ) → (first_of es ≡ wide l n k) ↔ IsFirst es (passing l n k)
-first_wide es l n k = (passes_first es l n k, IsFirst-verdict es (passing l n k))
+pub first_wide : (es : List Event) (l n k : ℕ) → (first_of es ≡ wide l n k) ↔ IsFirst es (overflowing l n k)
+first_wide es l n k = (overflows_first es l n k, IsFirst-verdict es (overflowing l n k))
 
 -- ---- there is one first event
 
@@ -128,10 +128,10 @@ same_event : (l n : ℕ) (f : Found) (m k : ℕ) (g : Found) → f ≢ Sound →
 same_event l n Sound m k g some_f some_g e = absurd (some_f refl)
 same_event l n (Breaks c) m k Sound some_f some_g e = absurd (some_g refl)
 same_event l n (Breaks c) m k (Breaks d) some_f some_g e = same_numbers failing l n c m k d (cc) (cc) (cc)
-same_event l n (Breaks c) m k (Passes d) some_f some_g e = absurd (cc)
-same_event l n (Passes c) m k Sound some_f some_g e = absurd (some_g refl)
-same_event l n (Passes c) m k (Breaks d) some_f some_g e = absurd (cc)
-same_event l n (Passes c) m k (Passes d) some_f some_g e = same_numbers passing l n c m k d (cc) (cc) (cc)
+same_event l n (Breaks c) m k (Overflows d) some_f some_g e = absurd (cc)
+same_event l n (Overflows c) m k Sound some_f some_g e = absurd (some_g refl)
+same_event l n (Overflows c) m k (Breaks d) some_f some_g e = absurd (cc)
+same_event l n (Overflows c) m k (Overflows d) some_f some_g e = same_numbers overflowing l n c m k d (cc) (cc) (cc)
 
 pub one_first : (es : List Event) (a b : Event) → IsFirst es a → IsFirst es b → a ≡ b
 one_first es a b p q =

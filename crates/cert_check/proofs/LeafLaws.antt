@@ -8,7 +8,7 @@ use Rattle.std.proofs.lemmas.Bool.Decides.{Decides-int_eq}
 use Rattle.std.proofs.lemmas.Int.{ints, to_z-of_z, fits_signed_from_abs}
 use Rattle.std.proofs.lemmas.Option.{slice_get-get_or}
 use Rattle.whole.specs.Numbers.{IsWithin, fma}
-use Rattle.whole.proofs.Passing.{fma_some}
+use Rattle.whole.proofs.Overflow.{fma_some}
 use Rattle.linear_form.specs.declared.lists.Form.{Form}
 use Rattle.linear_form.specs.declared.lists.Term.{Term}
 use Rattle.linear_form.proofs.ReducedLists.{true_not_false}
@@ -16,11 +16,11 @@ use Rattle.farkas_cert.specs.declared.literals.Lit.{Lit}
 use Rattle.farkas_cert.specs.declared.trees.Part.{Part}
 use Rattle.clause_form.specs.Derivations.{Rows, LitRow, terms_of, row_of, row_coef, number_in, weighed_sum, coef_sum, bound_sum, running_sum}
 use Rattle.cert_check.specs.declared.found.Found.{Found}
-use Rattle.cert_check.specs.declared.found.Found.TheVariants.{Sound, Breaks, Passes}
+use Rattle.cert_check.specs.declared.found.Found.TheVariants.{Sound, Breaks, Overflows}
 use Rattle.cert_check.specs.declared.leaves.Total.{Total}
 use Rattle.cert_check.specs.Causes.{then_ask, asked, of_part, of_parts, number_at, of_sum, of_sums, of_rows, cancel_below, is_strict, some_strict, is_impossible, is_contradiction, is_on_path}
 use Rattle.cert_check.specs.Desks.{AreSums, AreTotals, NoneNegative, Running}
-use Rattle.cert_check.specs.Tables.{stepped, sum_at, EachWithin, IsLeastPassed, IsCleared}
+use Rattle.cert_check.specs.Tables.{stepped, sum_at, EachWithin, IsLeastOverflowed, IsCleared}
 use Rattle.cert_check.proofs.CauseLaws.{cancel_below-all, then_sound, asked_sound, both_true, true_both, not_negative}
 use Rattle.cert_check.proofs.SumLaws.{stepped-zero}
 
@@ -152,42 +152,42 @@ of_sum_some : (column : ℕ) (sum : Option ℤ) → sum ≢ None → of_sum colu
 of_sum_some column None some = absurd (some refl)
 of_sum_some column (Some z) some = refl
 
-none_passes : (c : Rows) (ps : List Part) (n : ℕ) → n ≤ c.columns → ((j : ℕ) → j < n → running_sum c (row_coef j) (pos 0) ps ≢ None) → of_sums c ps n ≡ Sound
-none_passes c ps zero le some = refl
-none_passes c ps (suc n) le some =
-    ap (λ f. then_ask f (of_sum n (running_sum c (number_at c n) (pos 0) ps))) (none_passes c ps n (omega arith) (λ j less. some j (omega arith))) ∙ ap (of_sum n) (number_below c ps n (omega arith)) ∙ of_sum_some n (running_sum c (row_coef n) (pos 0) ps) (some n (omega arith))
+none_overflows : (c : Rows) (ps : List Part) (n : ℕ) → n ≤ c.columns → ((j : ℕ) → j < n → running_sum c (row_coef j) (pos 0) ps ≢ None) → of_sums c ps n ≡ Sound
+none_overflows c ps zero le some = refl
+none_overflows c ps (suc n) le some =
+    ap (λ f. then_ask f (of_sum n (running_sum c (number_at c n) (pos 0) ps))) (none_overflows c ps n (omega arith) (λ j less. some j (omega arith))) ∙ ap (of_sum n) (number_below c ps n (omega arith)) ∙ of_sum_some n (running_sum c (row_coef n) (pos 0) ps) (some n (omega arith))
 
 last_or_before : (k n : ℕ) → k < suc n → nat_eq k n ≡ false → k < n
 last_or_before k n less e =
     let apart : k ≢ n = λ same. true_not_false (sym (eq-eqb k n same) ∙ e) in omega arith
 
-first_passes : (c : Rows) (ps : List Part) (k n : ℕ) → k < n → n ≤ c.columns → running_sum c (row_coef k) (pos 0) ps ≡ None → ((j : ℕ) → j < k → running_sum c (row_coef j) (pos 0) ps ≢ None) → of_sums c ps n ≡ Passes k
-first_passes c ps k zero less le none some = absurd (omega arith)
-first_passes c ps k (suc n) less le none some =
-    by (nat_eq k n) refl (λ low. first_passes c ps k n low (omega arith) none some)
+first_overflows : (c : Rows) (ps : List Part) (k n : ℕ) → k < n → n ≤ c.columns → running_sum c (row_coef k) (pos 0) ps ≡ None → ((j : ℕ) → j < k → running_sum c (row_coef j) (pos 0) ps ≢ None) → of_sums c ps n ≡ Overflows k
+first_overflows c ps k zero less le none some = absurd (omega arith)
+first_overflows c ps k (suc n) less le none some =
+    by (nat_eq k n) refl (λ low. first_overflows c ps k n low (omega arith) none some)
   where
-    by : (b : Bool) → nat_eq k n ≡ b → (k < n → of_sums c ps n ≡ Passes k) → then_ask (of_sums c ps n) (of_sum n (running_sum c (number_at c n) (pos 0) ps)) ≡ Passes k
+    by : (b : Bool) → nat_eq k n ≡ b → (k < n → of_sums c ps n ≡ Overflows k) → then_ask (of_sums c ps n) (of_sum n (running_sum c (number_at c n) (pos 0) ps)) ≡ Overflows k
     by true e earlier =
         let same : k ≡ n = eqb-true k n e in
-        ap (λ f. then_ask f (of_sum n (running_sum c (number_at c n) (pos 0) ps))) (none_passes c ps n (omega arith) (λ j low. some j (omega arith))) ∙ ap (of_sum n) (number_below c ps n (omega arith) ∙ ap (λ m. running_sum c (row_coef m) (pos 0) ps) (sym same) ∙ none) ∙ ap (λ m. Passes m) (sym same)
+        ap (λ f. then_ask f (of_sum n (running_sum c (number_at c n) (pos 0) ps))) (none_overflows c ps n (omega arith) (λ j low. some j (omega arith))) ∙ ap (of_sum n) (number_below c ps n (omega arith) ∙ ap (λ m. running_sum c (row_coef m) (pos 0) ps) (sym same) ∙ none) ∙ ap (λ m. Overflows m) (sym same)
     by false e earlier =
         ap (λ f. then_ask f (of_sum n (running_sum c (number_at c n) (pos 0) ps))) (earlier (last_or_before k n less e))
 
 -- ---- the rows together
 
-pub rows_pass : (c : Rows) (ps : List Part) (sums : List (Option ℤ)) (k : ℕ) → AreSums c ps sums → IsLeastPassed sums (Some k) → of_rows c ps ≡ Passes k
+pub rows_overflow : (c : Rows) (ps : List Part) (sums : List (Option ℤ)) (k : ℕ) → AreSums c ps sums → IsLeastOverflowed sums (Some k) → of_rows c ps ≡ Overflows k
 unfolding of_rows
-rows_pass c ps sums k are least =
+rows_overflow c ps sums k are least =
     let below : k < c.columns = subst (λ (n : ℕ). k < n) are.columns_are least.0 in
-    ap (λ f. then_ask (then_ask f (of_sum c.columns (running_sum c (number_at c c.columns) (pos 0) ps))) (asked 3 (is_contradiction c ps))) (first_passes c ps k c.columns below (omega arith) (sym (are.sum k below) ∙ least.1) (λ j low none. least.2 j low (are.sum j (omega arith) ∙ none)))
+    ap (λ f. then_ask (then_ask f (of_sum c.columns (running_sum c (number_at c c.columns) (pos 0) ps))) (asked 3 (is_contradiction c ps))) (first_overflows c ps k c.columns below (omega arith) (sym (are.sum k below) ∙ least.1) (λ j low none. least.2 j low (are.sum j (omega arith) ∙ none)))
 
-none_yet : (c : Rows) (ps : List Part) (sums : List (Option ℤ)) → AreSums c ps sums → IsLeastPassed sums None → of_sums c ps c.columns ≡ Sound
+none_yet : (c : Rows) (ps : List Part) (sums : List (Option ℤ)) → AreSums c ps sums → IsLeastOverflowed sums None → of_sums c ps c.columns ≡ Sound
 none_yet c ps sums are least =
-    none_passes c ps c.columns (omega arith) (λ j low none. least j (subst (λ (n : ℕ). j < n) (sym are.columns_are) low) (are.sum j low ∙ none))
+    none_overflows c ps c.columns (omega arith) (λ j low none. least j (subst (λ (n : ℕ). j < n) (sym are.columns_are) low) (are.sum j low ∙ none))
 
-pub bound_passes : (c : Rows) (ps : List Part) (sums : List (Option ℤ)) (total : Total) → AreSums c ps sums → IsLeastPassed sums None → AreTotals c ps total → total.bound ≡ None → of_rows c ps ≡ Passes c.columns
+pub bound_overflows : (c : Rows) (ps : List Part) (sums : List (Option ℤ)) (total : Total) → AreSums c ps sums → IsLeastOverflowed sums None → AreTotals c ps total → total.bound ≡ None → of_rows c ps ≡ Overflows c.columns
 unfolding of_rows
-bound_passes c ps sums total are least totals none =
+bound_overflows c ps sums total are least totals none =
     ap (λ f. then_ask (then_ask f (of_sum c.columns (running_sum c (number_at c c.columns) (pos 0) ps))) (asked 3 (is_contradiction c ps))) (none_yet c ps sums are least) ∙ ap (λ s. then_ask (of_sum c.columns s) (asked 3 (is_contradiction c ps))) (number_last c ps ∙ sym totals.bound ∙ none)
 
 same_test : (a b : Bool) → (a ≡ true → b ≡ true) → (b ≡ true → a ≡ true) → a ≡ b
@@ -199,7 +199,7 @@ zero_or_none : (sum : Option ℤ) (z : ℤ) → sum ≢ None → ((y : ℤ) → 
 zero_or_none None z some same = absurd (some refl)
 zero_or_none (Some y) z some same = ap (λ x. Some x) (same y refl)
 
-cancel_is : (c : Rows) (ps : List Part) (sums : List (Option ℤ)) → AreSums c ps sums → IsLeastPassed sums None → (cancel_below c ps c.columns ≡ true) ↔ IsCleared c.columns sums
+cancel_is : (c : Rows) (ps : List Part) (sums : List (Option ℤ)) → AreSums c ps sums → IsLeastOverflowed sums None → (cancel_below c ps c.columns ≡ true) ↔ IsCleared c.columns sums
 cancel_is c ps sums are least = (
   λ e. record { columns_are = are.columns_are; zeros = λ j low. zero_or_none (sum_at sums j) (pos 0) (least j (subst (λ (n : ℕ). j < n) (sym are.columns_are) low)) (λ y is. sym (from_zero c (row_coef j) ps y (sym (are.sum j low) ∙ is)) ∙ all.0 e j low) },
   λ h. all.1 (λ j low. from_zero c (row_coef j) ps (pos 0) (sym (are.sum j low) ∙ h.zeros j low)),
@@ -208,7 +208,7 @@ cancel_is c ps sums are least = (
     all : (cancel_below c ps c.columns ≡ true) ↔ ((j : ℕ) → j < c.columns → coef_sum c j ps ≡ pos 0)
     all = cancel_below-all c ps c.columns
 
-pub rows_asked : (c : Rows) (ps : List Part) (sums : List (Option ℤ)) (total : Total) (bound : ℤ) (cancels : Bool) → AreSums c ps sums → IsLeastPassed sums None → AreTotals c ps total → total.bound ≡ Some bound → ((cancels ≡ true) ↔ IsCleared (length sums) sums) → of_rows c ps ≡ asked 3 (cancels && is_impossible bound total.strict)
+pub rows_asked : (c : Rows) (ps : List Part) (sums : List (Option ℤ)) (total : Total) (bound : ℤ) (cancels : Bool) → AreSums c ps sums → IsLeastOverflowed sums None → AreTotals c ps total → total.bound ≡ Some bound → ((cancels ≡ true) ↔ IsCleared (length sums) sums) → of_rows c ps ≡ asked 3 (cancels && is_impossible bound total.strict)
 unfolding of_rows
 rows_asked c ps sums total bound cancels are least totals is test =
     ap (λ f. then_ask (then_ask f (of_sum c.columns (running_sum c (number_at c c.columns) (pos 0) ps))) (asked 3 (is_contradiction c ps))) (none_yet c ps sums are least) ∙ ap (λ s. then_ask (of_sum c.columns s) (asked 3 (is_contradiction c ps))) (number_last c ps ∙ sym totals.bound ∙ is) ∙ ap (λ b. asked 3 (b && is_impossible (bound_sum c ps) (some_strict c ps))) cancel_same ∙ ap (λ z. asked 3 (cancels && is_impossible z (some_strict c ps))) (from_zero c (λ row. row.bound) ps bound (sym totals.bound ∙ is)) ∙ ap (λ s. asked 3 (cancels && is_impossible bound s)) (sym totals.strict)
@@ -232,7 +232,7 @@ running_within c number s (p ∷ ps) z small e =
         let both = fma_some s p.mult (number_in number (row_of c p.lit)) t q in
         more t (subst IsWithin (sym both.0) both.1) e
 
-pub rows_closed : (c : Rows) (ps : List Part) (sums : List (Option ℤ)) (total : Total) (bound : ℤ) (cancels impossible : Bool) (answer : Found) → AreSums c ps sums → IsLeastPassed sums None → AreTotals c ps total → total.bound ≡ Some bound → ((cancels ≡ true) ↔ IsCleared (length sums) sums) → impossible ≡ is_impossible (to_z w128 (of_z w128 bound)) total.strict → answer ≡ asked 3 (cancels && impossible) → answer ≡ of_rows c ps
+pub rows_closed : (c : Rows) (ps : List Part) (sums : List (Option ℤ)) (total : Total) (bound : ℤ) (cancels impossible : Bool) (answer : Found) → AreSums c ps sums → IsLeastOverflowed sums None → AreTotals c ps total → total.bound ≡ Some bound → ((cancels ≡ true) ↔ IsCleared (length sums) sums) → impossible ≡ is_impossible (to_z w128 (of_z w128 bound)) total.strict → answer ≡ asked 3 (cancels && impossible) → answer ≡ of_rows c ps
 rows_closed c ps sums total bound cancels impossible answer are least totals is test low e =
     e ∙ ap (λ (b : Bool). asked 3 (cancels && b)) (low ∙ ap (λ (z : ℤ). is_impossible z total.strict) (to_z-of_z w128 bound (fits_signed_from_abs w128 bound small))) ∙ sym (rows_asked c ps sums total bound cancels are least totals is test)
   where

@@ -11,7 +11,7 @@ use Rattle.farkas_cert.specs.declared.certificates.Cert.{Cert}
 use Rattle.clause_form.specs.declared.clauses.Clauses.{Clauses}
 use Rattle.clause_form.specs.Derivations.{Rows, rows_of}
 use Rattle.cert_check.specs.declared.found.Found.{Found}
-use Rattle.cert_check.specs.declared.found.Found.TheVariants.{Sound, Breaks, Passes}
+use Rattle.cert_check.specs.declared.found.Found.TheVariants.{Sound, Breaks, Overflows}
 use Rattle.cert_check.specs.declared.found.Checked.{Checked}
 use Rattle.cert_check.specs.declared.found.Checked.TheVariants.{Proved, Fails}
 use Rattle.cert_check.specs.Answers.{first_found, count_if_sound, sound_before, named, answer_of}
@@ -25,7 +25,7 @@ use Rattle.cert_check.specs.Verdicts.{Verdict, proved, verdict_at, first_of, ver
 then_ask_assoc : (a b c : Found) → then_ask (then_ask a b) c ≡ then_ask a (then_ask b c)
 then_ask_assoc Sound b c = refl
 then_ask_assoc (Breaks k) b c = refl
-then_ask_assoc (Passes k) b c = refl
+then_ask_assoc (Overflows k) b c = refl
 
 pub first_found-append : (xs ys : List Found) → first_found (xs ++ ys) ≡ then_ask (first_found xs) (first_found ys)
 first_found-append [] ys = refl
@@ -43,18 +43,18 @@ before_sound (Sound ∷ xs) ys e =
     up : (a b d : ℕ) → a ≡ b + d → suc a ≡ suc b + d
     up a b d h = omega arith
 before_sound (Breaks k ∷ xs) ys e = absurd (cc)
-before_sound (Passes k ∷ xs) ys e = absurd (cc)
+before_sound (Overflows k ∷ xs) ys e = absurd (cc)
 
 pub before_fault : (xs ys : List Found) → first_found xs ≢ Sound → sound_before (xs ++ ys) ≡ sound_before xs
 before_fault [] ys some = absurd (some refl)
 before_fault (Sound ∷ xs) ys some = ap (λ n. suc n) (before_fault xs ys some)
 before_fault (Breaks k ∷ xs) ys some = refl
-before_fault (Passes k ∷ xs) ys some = refl
+before_fault (Overflows k ∷ xs) ys some = refl
 
 pub then_fault : (a b : Found) → a ≢ Sound → then_ask a b ≡ a
 then_fault Sound b some = absurd (some refl)
 then_fault (Breaks k) b some = refl
-then_fault (Passes k) b some = refl
+then_fault (Overflows k) b some = refl
 
 -- ---- names
 
@@ -91,8 +91,8 @@ first_numbered lemma node (Breaks k ∷ fs) es =
   where
     still : (a : ℕ) → a ≡ a + 0
     still a = omega arith
-first_numbered lemma node (Passes k ∷ fs) es =
-    ap (λ n. verdict_at lemma n (Passes k) (first_of es)) (still node)
+first_numbered lemma node (Overflows k ∷ fs) es =
+    ap (λ n. verdict_at lemma n (Overflows k) (first_of es)) (still node)
   where
     still : (a : ℕ) → a ≡ a + 0
     still a = omega arith
@@ -134,7 +134,7 @@ judged_fault c all clauses i l e some =
     unskipped : (lemma node : ℕ) (found : Found) (rest : Verdict) → found ≢ Sound → verdict_at lemma node found rest ≡ verdict_at lemma node found proved
     unskipped lemma node Sound rest some = absurd (some refl)
     unskipped lemma node (Breaks cause) rest some = refl
-    unskipped lemma node (Passes column) rest some = refl
+    unskipped lemma node (Overflows column) rest some = refl
 
 -- ---- the end
 
@@ -191,19 +191,19 @@ end_other ls l k e long some =
 pub split_fault : (x : Found) (rest : List Found) → x ≢ Sound → (first_found (x ∷ rest) ≡ x) × (sound_before (x ∷ rest) ≡ 0)
 split_fault Sound rest some = absurd (some refl)
 split_fault (Breaks k) rest some = (refl, refl)
-split_fault (Passes k) rest some = (refl, refl)
+split_fault (Overflows k) rest some = (refl, refl)
 
 pub yes_fault : (x : Found) (ys ns : List Found) → x ≡ Sound → first_found ys ≢ Sound → (first_found (x ∷ (ys ++ ns)) ≡ first_found ys) × (sound_before (x ∷ (ys ++ ns)) ≡ suc (sound_before ys))
 yes_fault Sound ys ns e some =
     (first_found-append ys ns ∙ then_fault (first_found ys) (first_found ns) some, ap (λ n. suc n) (before_fault ys ns some))
 yes_fault (Breaks k) ys ns e some = absurd (cc)
-yes_fault (Passes k) ys ns e some = absurd (cc)
+yes_fault (Overflows k) ys ns e some = absurd (cc)
 
 pub both_sides : (x : Found) (ys ns : List Found) → x ≡ Sound → first_found ys ≡ Sound → (first_found (x ∷ (ys ++ ns)) ≡ first_found ns) × (sound_before (x ∷ (ys ++ ns)) ≡ suc (sound_before ys + sound_before ns))
 both_sides Sound ys ns e all =
     (first_found-append ys ns ∙ ap (λ f. then_ask f (first_found ns)) all, ap (λ n. suc n) (before_sound ys ns all))
 both_sides (Breaks k) ys ns e all = absurd (cc)
-both_sides (Passes k) ys ns e all = absurd (cc)
+both_sides (Overflows k) ys ns e all = absurd (cc)
 
 -- where the node's number stands after a first node and one tree, or two
 pub after_one : (start first second a : ℕ) → first ≡ named (start + 1) → second ≡ named (first + a) → second ≡ named (start + suc a)
@@ -233,7 +233,7 @@ counted_fault (Breaks k) n some less = sym (named_itself n less) ∙ ap named (s
   where
     still : (a : ℕ) → a ≡ a + 0
     still a = omega arith
-counted_fault (Passes k) n some less = sym (named_itself n less) ∙ ap named (still n)
+counted_fault (Overflows k) n some less = sym (named_itself n less) ∙ ap named (still n)
   where
     still : (a : ℕ) → a ≡ a + 0
     still a = omega arith
@@ -244,21 +244,21 @@ Reaches fs start found node = (found ≡ first_found fs) × (node ≡ named (sta
 pub at_split : (x : Found) (rest : List Found) (start node : ℕ) → x ≢ Sound → node ≡ named (start + sound_before (x ∷ [])) → Reaches (x ∷ rest) start x node
 at_split Sound rest start node some e = absurd (some refl)
 at_split (Breaks k) rest start node some e = (refl, e)
-at_split (Passes k) rest start node some e = (refl, e)
+at_split (Overflows k) rest start node some e = (refl, e)
 
 pub at_yes : (x : Found) (ys ns : List Found) (f : Found) (start first node : ℕ) → x ≡ Sound → first ≡ named (start + sound_before (x ∷ [])) → f ≡ first_found ys → node ≡ named (first + sound_before ys) → f ≢ Sound → Reaches (x ∷ (ys ++ ns)) start f node
 at_yes Sound ys ns f start first node e one found number some =
     let both = yes_fault Sound ys ns refl (λ s. some (found ∙ s)) in
     (found ∙ sym both.0, after_one start first node (sound_before ys) one number ∙ ap (λ (a : ℕ). named (start + a)) (sym both.1))
 at_yes (Breaks k) ys ns f start first node e one found number some = absurd (cc)
-at_yes (Passes k) ys ns f start first node e one found number some = absurd (cc)
+at_yes (Overflows k) ys ns f start first node e one found number some = absurd (cc)
 
 pub at_no : (x : Found) (ys ns : List Found) (f : Found) (start first second node : ℕ) → x ≡ Sound → first ≡ named (start + sound_before (x ∷ [])) → first_found ys ≡ Sound → second ≡ named (first + sound_before ys) → f ≡ first_found ns → node ≡ named (second + sound_before ns) → Reaches (x ∷ (ys ++ ns)) start f node
 at_no Sound ys ns f start first second node e one held two found number =
     let both = both_sides Sound ys ns refl held in
     (found ∙ sym both.0, after_two start second node (sound_before ys) (sound_before ns) (after_one start first second (sound_before ys) one two) number ∙ ap (λ (a : ℕ). named (start + a)) (sym both.1))
 at_no (Breaks k) ys ns f start first second node e one held two found number = absurd (cc)
-at_no (Passes k) ys ns f start first second node e one held two found number = absurd (cc)
+at_no (Overflows k) ys ns f start first second node e one held two found number = absurd (cc)
 
 -- ---- a split under its path
 

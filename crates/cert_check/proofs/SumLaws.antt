@@ -9,13 +9,13 @@ use Rattle.std.proofs.lemmas.List.{get_or-set_same, get_or-set_other, length-set
 use Rattle.std.proofs.lemmas.Int.{to_z-of_z, fits_signed_from_abs, unsigned_abs-mul}
 use Rattle.std.proofs.Math.IntN.{*ℤ-zero, +ℤ_idr}
 use Rattle.std.proofs.Math.Nat.{mul-le-mul_left}
-use Rattle.whole.specs.Numbers.{IsWithin, passes, whole, fma}
-use Rattle.whole.proofs.Passing.{whole_kept, fma_some}
+use Rattle.whole.specs.Numbers.{IsWithin, overflows, whole, fma}
+use Rattle.whole.proofs.Overflow.{whole_kept, fma_some}
 use Rattle.linear_form.specs.declared.lists.Term.{Term}
 use Rattle.linear_form.specs.Reduced.{IsReduced}
 use Rattle.linear_form.specs.Sums.{coef_at}
 use Rattle.linear_form.proofs.ReducedLists.{true_not_false, coef_at-below}
-use Rattle.cert_check.specs.Tables.{stepped, sum_at, is_settled, weight, unsettled, EachWithin, IsLeastPassed, least_of, passed_after, Tallies, IsCleared}
+use Rattle.cert_check.specs.Tables.{stepped, sum_at, is_settled, weight, unsettled, EachWithin, IsLeastOverflowed, least_of, overflowed_after, Tallies, IsCleared}
 
 -- ---- how many sums are unsettled
 
@@ -90,12 +90,12 @@ within_set sums column after less within new j z e = by (nat_eq j column) refl
 stays : (sums : List (Option ℤ)) (column : ℕ) (after : Option ℤ) (j : ℕ) → j ≢ column → get_or sums j None ≢ None → get_or (set sums column after) j None ≢ None
 stays sums column after j other some e = some (sym (get_or-set_other sums column j after None other) ∙ e)
 
-least_after : (sums : List (Option ℤ)) (passed : Option ℕ) (column : ℕ) (after : Option ℤ) → column < length sums → (get_or sums column None ≡ None → after ≡ None) → IsLeastPassed sums passed → IsLeastPassed (set sums column after) (passed_after after passed column)
+least_after : (sums : List (Option ℤ)) (overflowed : Option ℕ) (column : ℕ) (after : Option ℤ) → column < length sums → (get_or sums column None ≡ None → after ≡ None) → IsLeastOverflowed sums overflowed → IsLeastOverflowed (set sums column after) (overflowed_after after overflowed column)
 least_after sums None column None less kept least =
     (subst (λ (n : ℕ). column < n) (sym (length-set sums column None)) less, get_or-set_same sums column None None less, λ j low. stays sums column None j (omega arith) (least j (omega arith)))
 least_after sums (Some l) column None less kept least = by (nat_lt l column) refl
   where
-    by : (b : Bool) → nat_lt l column ≡ b → IsLeastPassed (set sums column None) (Some (cond b l column))
+    by : (b : Bool) → nat_lt l column ≡ b → IsLeastOverflowed (set sums column None) (Some (cond b l column))
     by true e =
         let low : l < column = ltb-true l column e in
         (subst (λ (n : ℕ). l < n) (sym (length-set sums column None)) least.0, get_or-set_other sums column l None None (omega arith) ∙ least.1, λ j under. stays sums column None j (omega arith) (least.2 j under))
@@ -138,11 +138,11 @@ stepped_within mult number None z e = absurd (cc)
 stepped_within mult number (Some s) z e =
     let both = fma_some s mult number z e in subst IsWithin (sym both.0) both.1
 
-pub tallies_after : (sums : List (Option ℤ)) (count : ℕ) (passed : Option ℕ) (column : ℕ) (mult number : ℤ) (more : ℕ) → column < length sums → Tallies sums count passed → more + weight (sum_at sums column) ≡ count + weight (stepped mult number (sum_at sums column)) → Tallies (set sums column (stepped mult number (sum_at sums column))) more (passed_after (stepped mult number (sum_at sums column)) passed column)
-tallies_after sums count passed column mult number more less t counted = record {
+pub tallies_after : (sums : List (Option ℤ)) (count : ℕ) (overflowed : Option ℕ) (column : ℕ) (mult number : ℤ) (more : ℕ) → column < length sums → Tallies sums count overflowed → more + weight (sum_at sums column) ≡ count + weight (stepped mult number (sum_at sums column)) → Tallies (set sums column (stepped mult number (sum_at sums column))) more (overflowed_after (stepped mult number (sum_at sums column)) overflowed column)
+tallies_after sums count overflowed column mult number more less t counted = record {
   few = subst (λ (n : ℕ). n < 2 ^ 32) (sym (length-set sums column after)) t.few;
   counted = same more (weight (sum_at sums column)) count (weight after) (unsettled sums) (unsettled (set sums column after)) counted t.counted (unsettled-set sums column after less);
-  least = least_after sums passed column after less gone t.least;
+  least = least_after sums overflowed column after less gone t.least;
   within = within_set sums column after less t.within (stepped_within mult number (sum_at sums column));
 }
   where
@@ -185,19 +185,19 @@ tallies_none n sums few are long = (
     within : (j : ℕ) (z : ℤ) → sum_at sums j ≡ Some z → IsWithin z
     within j z e = by j z e (nat_lt j n) refl
 
-pub count_fits : (sums : List (Option ℤ)) (count : ℕ) (passed : Option ℕ) → Tallies sums count passed → count < 2 ^ 32
-count_fits sums count passed t = smaller count (unsettled sums) (length sums) (2 ^ 32) t.counted (unsettled_few sums) t.few
+pub count_fits : (sums : List (Option ℤ)) (count : ℕ) (overflowed : Option ℕ) → Tallies sums count overflowed → count < 2 ^ 32
+count_fits sums count overflowed t = smaller count (unsettled sums) (length sums) (2 ^ 32) t.counted (unsettled_few sums) t.few
   where
     smaller : (a b c d : ℕ) → a ≡ b → b ≤ c → c < d → a < d
     smaller a b c d p q r = omega arith
 
-pub count_takes : (sums : List (Option ℤ)) (count : ℕ) (passed : Option ℕ) (column : ℕ) (before : Option ℤ) → Tallies sums count passed → column < length sums → before ≡ sum_at sums column → weight before ≤ count
-count_takes sums count passed column before t less e =
+pub count_takes : (sums : List (Option ℤ)) (count : ℕ) (overflowed : Option ℕ) (column : ℕ) (before : Option ℤ) → Tallies sums count overflowed → column < length sums → before ≡ sum_at sums column → weight before ≤ count
+count_takes sums count overflowed column before t less e =
     subst (λ (s : Option ℤ). weight s ≤ count) (sym e) (subst (λ (n : ℕ). weight (sum_at sums column) ≤ n) (sym t.counted) (weight_at sums column less))
 
 -- none is unsettled exactly where all are 0
-pub cancel_law : (sums : List (Option ℤ)) (count : ℕ) (passed : Option ℕ) → Tallies sums count passed → IsTrue (nat_eq count 0) ↔ IsCleared (length sums) sums
-cancel_law sums count passed t = (
+pub cancel_law : (sums : List (Option ℤ)) (count : ℕ) (overflowed : Option ℕ) → Tallies sums count overflowed → IsTrue (nat_eq count 0) ↔ IsCleared (length sums) sums
+cancel_law sums count overflowed t = (
   λ e. record { columns_are = refl; zeros = all_settled sums (sym t.counted ∙ eqb-true count 0 e) },
   λ h. eq-eqb count 0 (t.counted ∙ settled_all sums h.zeros),
 )
@@ -210,17 +210,17 @@ pub tallies_replicated : (n : ℕ) (sums : List (Option ℤ)) → n < 2 ^ 32 →
 tallies_replicated n sums few are =
     (tallies_none n sums few are (ap length are ∙ replicated_long n (Some (pos 0)))).1
 
-pub tallies_set : (sums : List (Option ℤ)) (count : ℕ) (passed : Option ℕ) (column : ℕ) (before after : Option ℤ) (mult number : ℤ) (more : ℕ) (next : Option ℕ) → column < length sums → Tallies sums count passed → before ≡ sum_at sums column → after ≡ stepped mult number before → more + weight before ≡ count + weight after → next ≡ passed_after after passed column → Tallies (set sums column after) more next
-tallies_set sums count passed column before after mult number more next less t b a counted n =
+pub tallies_set : (sums : List (Option ℤ)) (count : ℕ) (overflowed : Option ℕ) (column : ℕ) (before after : Option ℤ) (mult number : ℤ) (more : ℕ) (next : Option ℕ) → column < length sums → Tallies sums count overflowed → before ≡ sum_at sums column → after ≡ stepped mult number before → more + weight before ≡ count + weight after → next ≡ overflowed_after after overflowed column → Tallies (set sums column after) more next
+tallies_set sums count overflowed column before after mult number more next less t b a counted n =
     let at : after ≡ stepped mult number (sum_at sums column) = a ∙ ap (stepped mult number) b in
-    let law : Tallies (set sums column (stepped mult number (sum_at sums column))) more (passed_after (stepped mult number (sum_at sums column)) passed column) = tallies_after sums count passed column mult number more less t (ap (λ (s : Option ℤ). more + weight s) (sym b) ∙ counted ∙ ap (λ (s : Option ℤ). count + weight s) at) in
-    subst (λ (p : Option ℕ). Tallies (set sums column after) more p) (sym n) (subst (λ (s : Option ℤ). Tallies (set sums column s) more (passed_after s passed column)) (sym at) law)
+    let law : Tallies (set sums column (stepped mult number (sum_at sums column))) more (overflowed_after (stepped mult number (sum_at sums column)) overflowed column) = tallies_after sums count overflowed column mult number more less t (ap (λ (s : Option ℤ). more + weight s) (sym b) ∙ counted ∙ ap (λ (s : Option ℤ). count + weight s) at) in
+    subst (λ (p : Option ℕ). Tallies (set sums column after) more p) (sym n) (subst (λ (s : Option ℤ). Tallies (set sums column s) more (overflowed_after s overflowed column)) (sym at) law)
 
 -- ---- a product of 0 changes no sum
 
 pub fma-zero : (z mult number : ℤ) → number ≡ pos 0 → IsWithin z → fma z mult number ≡ Some z
 fma-zero z mult number e small =
-    ap (fma z mult) e ∙ ap (λ p. cond (passes p) None (whole (z +ℤ p))) (*ℤ-zero mult) ∙ ap whole (+ℤ_idr z) ∙ whole_kept z small
+    ap (fma z mult) e ∙ ap (λ p. cond (overflows p) None (whole (z +ℤ p))) (*ℤ-zero mult) ∙ ap whole (+ℤ_idr z) ∙ whole_kept z small
 
 pub stepped-zero : (mult number : ℤ) (sum : Option ℤ) → number ≡ pos 0 → ((z : ℤ) → sum ≡ Some z → IsWithin z) → stepped mult number sum ≡ sum
 stepped-zero mult number None e small = refl

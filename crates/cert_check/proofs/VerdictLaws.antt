@@ -12,6 +12,6 @@ each_has_a_verdict c cert = record {
     λ h. sound_first (events c cert) (prove-events c cert h.0 h.1),
   );
   failed = λ lemma node cause. first_fails (events c cert) lemma node cause;
-  passed = λ lemma node column. first_wide (events c cert) lemma node column;
+  overflowed = λ lemma node column. first_wide (events c cert) lemma node column;
   one = one_first (events c cert);
 }

@@ -6,7 +6,7 @@ use Rattle.clause_form.specs.Derivations.{Proves}
 use Rattle.cert_check.specs.declared.found.Checked.{Checked}
 use Rattle.cert_check.specs.declared.found.Checked.TheVariants.{Proved, Fails, Wide, NoMemory}
 use Rattle.cert_check.specs.declared.found.Found.{Found}
-use Rattle.cert_check.specs.declared.found.Found.TheVariants.{Sound, Breaks, Passes}
+use Rattle.cert_check.specs.declared.found.Found.TheVariants.{Sound, Breaks, Overflows}
 use Rattle.cert_check.specs.Causes.{then_ask, Event, events}
 use Rattle.cert_check.specs.Verdicts.{Verdict, proved, fails, wide, EachFound, StaysWithin, IsFirst}
 
@@ -33,7 +33,7 @@ first_found (f ∷ fs) = then_ask f (first_found fs)
 abbrev pub count_if_sound : Found → ℕ → ℕ
 count_if_sound Sound more = suc more
 count_if_sound (Breaks cause) more = zero
-count_if_sound (Passes column) more = zero
+count_if_sound (Overflows column) more = zero
 
 -- how many places stand before it
 abbrev pub sound_before : List Found → ℕ
@@ -42,7 +42,7 @@ sound_before (f ∷ fs) = count_if_sound f (sound_before fs)
 
 -- ---- what an answer says, in words
 
--- exactly what proves, without a sum that passes, is proved
+-- exactly what proves, without a sum that overflows, is proved
 pub record SaysProved (c : Clauses) (cert : Cert) (result : Checked) : Type 0 where
   pub only : result ≡ Proved → Proves c cert × EachFound StaysWithin (events c cert)
   pub always : result ≢ NoMemory → Proves c cert → EachFound StaysWithin (events c cert) → result ≡ Proved
@@ -55,10 +55,10 @@ pub record SaysFailed (c : Clauses) (cert : Cert) (result : Checked) : Type 0 wh
   pub only : (l n cause : ℕ) → result ≡ Fails l n cause → (lemma : ℕ) × (node : ℕ) × (l ≡ named lemma) × (n ≡ named node) × IsFirstFault c cert lemma node cause
   pub always : result ≢ NoMemory → (lemma node cause : ℕ) → IsFirstFault c cert lemma node cause → result ≡ Fails (named lemma) (named node) cause
 
--- a sum passes at the first place at which something is found
-abbrev pub IsFirstPassing : Clauses → Cert → ℕ → ℕ → ℕ → Type 0
-IsFirstPassing c cert lemma node column = IsFirst (events c cert) (record { lemma = lemma; node = node; found = Passes column })
+-- a sum overflows at the first place at which something is found
+abbrev pub IsFirstOverflow : Clauses → Cert → ℕ → ℕ → ℕ → Type 0
+IsFirstOverflow c cert lemma node column = IsFirst (events c cert) (record { lemma = lemma; node = node; found = Overflows column })
 
-pub record SaysPassed (c : Clauses) (cert : Cert) (result : Checked) : Type 0 where
-  pub only : (l n column : ℕ) → result ≡ Wide l n column → (lemma : ℕ) × (node : ℕ) × (l ≡ named lemma) × (n ≡ named node) × IsFirstPassing c cert lemma node column
-  pub always : result ≢ NoMemory → (lemma node column : ℕ) → IsFirstPassing c cert lemma node column → result ≡ Wide (named lemma) (named node) column
+pub record SaysOverflowed (c : Clauses) (cert : Cert) (result : Checked) : Type 0 where
+  pub only : (l n column : ℕ) → result ≡ Wide l n column → (lemma : ℕ) × (node : ℕ) × (l ≡ named lemma) × (n ≡ named node) × IsFirstOverflow c cert lemma node column
+  pub always : result ≢ NoMemory → (lemma node column : ℕ) → IsFirstOverflow c cert lemma node column → result ≡ Wide (named lemma) (named node) column

@@ -14,14 +14,14 @@ use Rattle.farkas_cert.specs.declared.trees.Part.{Part}
 use Rattle.farkas_cert.specs.declared.certificates.Cert.{Cert}
 use Rattle.clause_form.specs.declared.clauses.Clauses.{Clauses}
 use Rattle.cert_check.specs.declared.found.Found.{Found}
-use Rattle.cert_check.specs.declared.found.Found.TheVariants.{Sound, Breaks, Passes}
+use Rattle.cert_check.specs.declared.found.Found.TheVariants.{Sound, Breaks, Overflows}
 use Rattle.clause_form.specs.Derivations.{Rows, rows_of, LitRow, row_of, row_coef, coef_sum, bound_sum, running_sum}
 
 -- the next is asked only where nothing was found
 abbrev pub then_ask : Found → Found → Found
 then_ask Sound next = next
 then_ask (Breaks cause) next = Breaks cause
-then_ask (Passes column) next = Passes column
+then_ask (Overflows column) next = Overflows column
 
 -- the cause, unless the test holds
 abbrev pub asked : ℕ → Bool → Found
@@ -62,7 +62,7 @@ abbrev pub number_at : Rows → ℕ → LitRow → ℤ
 number_at c column row = if nat_lt column c.columns then row_coef column row else row.bound
 
 abbrev pub of_sum : ℕ → Option ℤ → Found
-of_sum column None = Passes column
+of_sum column None = Overflows column
 of_sum column (Some sum) = Sound
 
 -- the sums below a number of columns, the least column first

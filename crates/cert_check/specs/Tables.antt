@@ -25,7 +25,7 @@ without_first (l ∷ ls) = ls
 
 -- ---- sums
 
--- a running sum after one product more; a sum that passed stays so
+-- a running sum after one product more; a sum that overflowed stays so
 abbrev pub stepped : ℤ → ℤ → Option ℤ → Option ℤ
 stepped mult number sum = option_and_then (λ s. fma s mult number) sum
 
@@ -37,11 +37,11 @@ abbrev pub is_settled : Option ℤ → Bool
 is_settled None = false
 is_settled (Some sum) = int_eq sum (pos 0)
 
--- 1 for a sum that passed or isn't 0
+-- 1 for a sum that overflowed or isn't 0
 abbrev pub weight : Option ℤ → ℕ
 weight sum = if is_settled sum then 0 else 1
 
--- how many sums passed or aren't 0
+-- how many sums overflowed or aren't 0
 abbrev pub unsettled : List (Option ℤ) → ℕ
 unsettled [] = zero
 unsettled (s ∷ ss) = weight s + unsettled ss
@@ -50,25 +50,25 @@ unsettled (s ∷ ss) = weight s + unsettled ss
 abbrev pub EachWithin : List (Option ℤ) → Type 0
 EachWithin sums = (column : ℕ) (sum : ℤ) → sum_at sums column ≡ Some sum → IsWithin sum
 
--- the least column below a number whose sum passed, if there is one
-abbrev pub IsLeastPassed : List (Option ℤ) → Option ℕ → Type 0
-IsLeastPassed sums None = (column : ℕ) → column < length sums → sum_at sums column ≢ None
-IsLeastPassed sums (Some least) = (least < length sums) × (sum_at sums least ≡ None) × ((column : ℕ) → column < least → sum_at sums column ≢ None)
+-- the least column below a number whose sum overflowed, if there is one
+abbrev pub IsLeastOverflowed : List (Option ℤ) → Option ℕ → Type 0
+IsLeastOverflowed sums None = (column : ℕ) → column < length sums → sum_at sums column ≢ None
+IsLeastOverflowed sums (Some least) = (least < length sums) × (sum_at sums least ≡ None) × ((column : ℕ) → column < least → sum_at sums column ≢ None)
 
 abbrev pub least_of : Option ℕ → ℕ → ℕ
 least_of None column = column
 least_of (Some least) column = if nat_lt least column then least else column
 
--- the least column that passed, after a column's sum has become this one
-abbrev pub passed_after : Option ℤ → Option ℕ → ℕ → Option ℕ
-passed_after None passed column = Some (least_of passed column)
-passed_after (Some sum) passed column = passed
+-- the least column that overflowed, after a column's sum has become this one
+abbrev pub overflowed_after : Option ℤ → Option ℕ → ℕ → Option ℕ
+overflowed_after None overflowed column = Some (least_of overflowed column)
+overflowed_after (Some sum) overflowed column = overflowed
 
 -- what is kept of the sums beside them
-pub record Tallies (sums : List (Option ℤ)) (count : ℕ) (passed : Option ℕ) : Type 0 where
+pub record Tallies (sums : List (Option ℤ)) (count : ℕ) (overflowed : Option ℕ) : Type 0 where
   pub few : length sums < 2 ^ 32
   pub counted : count ≡ unsettled sums
-  pub least : IsLeastPassed sums passed
+  pub least : IsLeastOverflowed sums overflowed
   pub within : EachWithin sums
 
 -- a sum of 0 for each column

@@ -1,10 +1,10 @@
--- What a certificate comes to: it proves, or there is a first place at which it fails or a sum passes.
+-- What a certificate comes to: it proves, or there is a first place at which it fails or a sum overflows.
 use Rattle.std.specs.Prelude.{◌≡◌, ◌≢◌, ◌↔◌, ◌<◌, ℕ, List, [], ◌∷◌, ◌++◌}
 use Rattle.farkas_cert.specs.declared.certificates.Cert.{Cert}
 use Rattle.clause_form.specs.declared.clauses.Clauses.{Clauses}
 use Rattle.clause_form.specs.Derivations.{Proves}
 use Rattle.cert_check.specs.declared.found.Found.{Found}
-use Rattle.cert_check.specs.declared.found.Found.TheVariants.{Sound, Breaks, Passes}
+use Rattle.cert_check.specs.declared.found.Found.TheVariants.{Sound, Breaks, Overflows}
 use Rattle.cert_check.specs.Causes.{Event, events}
 
 pub data Verdict : Type 0 where
@@ -15,7 +15,7 @@ pub data Verdict : Type 0 where
 abbrev pub verdict_at : ℕ → ℕ → Found → Verdict → Verdict
 verdict_at lemma node Sound rest = rest
 verdict_at lemma node (Breaks cause) rest = fails lemma node cause
-verdict_at lemma node (Passes column) rest = wide lemma node column
+verdict_at lemma node (Overflows column) rest = wide lemma node column
 
 -- the first event at which something was found
 abbrev pub first_of : List Event → Verdict
@@ -33,9 +33,9 @@ EachFound P (e ∷ es) = P e.found × EachFound P es
 abbrev pub IsSound : Found → Type 0
 IsSound found = found ≡ Sound
 
--- no running sum passes here
+-- no running sum overflows here
 abbrev pub StaysWithin : Found → Type 0
-StaysWithin found = (column : ℕ) → found ≢ Passes column
+StaysWithin found = (column : ℕ) → found ≢ Overflows column
 
 -- the event is the first at which something is found
 pub record IsFirst (all : List Event) (event : Event) : Type 0 where
@@ -45,11 +45,11 @@ pub record IsFirst (all : List Event) (event : Event) : Type 0 where
   pub all_sound : EachFound IsSound before
   pub found : event.found ≢ Sound
 
--- exactly what proves, without a sum that passes, is proved; everything else has a first event
+-- exactly what proves, without a sum that overflows, is proved; everything else has a first event
 pub record IsVerdict (c : Clauses) (cert : Cert) (v : Verdict) : Type 0 where
   pub proves : (v ≡ proved) ↔ (Proves c cert × EachFound StaysWithin (events c cert))
   pub failed : (lemma node cause : ℕ) → (v ≡ fails lemma node cause) ↔ IsFirst (events c cert) (record { lemma = lemma; node = node; found = Breaks cause })
-  pub passed : (lemma node column : ℕ) → (v ≡ wide lemma node column) ↔ IsFirst (events c cert) (record { lemma = lemma; node = node; found = Passes column })
+  pub overflowed : (lemma node column : ℕ) → (v ≡ wide lemma node column) ↔ IsFirst (events c cert) (record { lemma = lemma; node = node; found = Overflows column })
   pub one : (a b : Event) → IsFirst (events c cert) a → IsFirst (events c cert) b → a ≡ b
 
 -- every certificate has a verdict, and only one

@@ -5,7 +5,7 @@ ghost use Rattle.clause_form.specs.Derivations.{Proves, rows_of};
 ghost use Rattle.clause_form.specs.WellFormed.{IsWellFormed};
 ghost use Rattle.cert_check.specs.declared.found.Checked.TheVariants.{NoMemory as OutOfMemory, Proved};
 ghost use Rattle.cert_check.specs.declared.found.Found.TheVariants.{Sound};
-ghost use Rattle.cert_check.specs.Answers.{IsAnswer, SaysFailed, SaysPassed, SaysProved, answer_of, named};
+ghost use Rattle.cert_check.specs.Answers.{IsAnswer, SaysFailed, SaysOverflowed, SaysProved, answer_of, named};
 ghost use Rattle.cert_check.specs.Causes.{end_event, has_sizes};
 ghost use Rattle.cert_check.specs.Examples.{problem};
 ghost use Rattle.cert_check.specs.NoModel.{HasNoModel};
@@ -30,7 +30,7 @@ use whole::NoMemory;
 /// - At a leaf that cites a clause, K6: there is such a clause before the lemma; K5: it is false on
 ///   the path.
 /// - At a Farkas leaf, for each part in order, K2: its atom is in range; K7: its literal is on the
-///   path and of a row; K4: its multiplier isn't below 0. Then whether a sum passes, at each column
+///   path and of a row; K4: its multiplier isn't below 0. Then whether a sum overflows, at each column
 ///   from 0 and last at the bound. Then K3: the sums are a contradiction.
 /// - K8 (at the last lemma, node 0, after all nodes): there is a lemma, and the last clause is empty.
 ///
@@ -40,12 +40,12 @@ pub fn check(alloc: Global, clauses: &Clauses, cert: &Cert) -> Checked
     requires formed { IsWellFormed clauses.now }
     ensures exact { IsAnswer result (answer_of (verdict clauses.now cert.now)) }
 
-    // It is proved exactly where the certificate proves and no running sum passes.
+    // It is proved exactly where the certificate proves and no running sum overflows.
     ensures proved { SaysProved clauses.now cert.now result }
 
     // It fails, or is too wide, exactly at the first place at which something is found.
     ensures failed { SaysFailed clauses.now cert.now result }
-    ensures passed { SaysPassed clauses.now cert.now result }
+    ensures overflowed { SaysOverflowed clauses.now cert.now result }
 
     // What is proved has no model.
     ensures no_model { result ≡ Proved → HasNoModel clauses.now }
@@ -126,7 +126,7 @@ fn answer(lemma: u32, node: u32, found: Found) -> Checked
     match found {
         Found::Sound => Checked::Proved,
         Found::Breaks(cause) => Checked::Fails { lemma, node, cause },
-        Found::Passes(column) => Checked::Wide {
+        Found::Overflows(column) => Checked::Wide {
             lemma,
             node,
             column,

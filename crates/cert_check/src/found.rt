@@ -3,12 +3,12 @@ ghost use Rattle.std.specs.Prelude.{◌≡◌, ◌+◌};
 ghost use Rattle.cert_check.specs.Answers.{named};
 
 /// What is found at one place: nothing, a cause by its number, or a column whose running sum
-/// passes 128 bits, where the number of columns stands for the bound.
+/// overflows 128 bits, where the number of columns stands for the bound.
 #[derive(Clone, Copy, Debug, PartialEq, Eq)]
 pub(crate) enum Found {
     Sound,
     Breaks(u8),
-    Passes(u32),
+    Overflows(u32),
 }
 
 /// What a check comes to.

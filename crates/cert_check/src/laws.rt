@@ -12,8 +12,8 @@ pub fn proved_have_no_model()
     ensures { ProvedHaveNoModel }
 {}
 
-/// A certificate is proved exactly where it proves and no running sum passes 128 bits; it fails, or is too wide, exactly
-/// at the first place at which a cause is found or a sum passes. The places are taken in the order of the lemmas, and in a
+/// A certificate is proved exactly where it proves and no running sum overflows 128 bits; it fails, or is too wide, exactly
+/// at the first place at which a cause is found or a sum overflows. The places are taken in the order of the lemmas, and in a
 /// lemma its clause comes first and then its nodes in prefix order.
 pub fn each_has_a_verdict()
     ensures { EachHasAVerdict }

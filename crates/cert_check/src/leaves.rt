@@ -7,7 +7,7 @@ ghost use Rattle.clause_form.specs.WellFormed.{IsWellFormed};
 ghost use Rattle.cert_check.specs.Causes.{asked, is_impossible, of_leaf, of_part, of_parts, of_rows};
 ghost use Rattle.cert_check.specs.declared.found.Found.TheVariants.{Sound};
 ghost use Rattle.cert_check.specs.Desks.{AreSums, AreTotals, IsReady, IsReadyAgain, IsSmall, NoneNegative, Running, seen_row};
-ghost use Rattle.cert_check.specs.Tables.{EachWithin, IsCleared, IsLeastPassed, stepped, sum_at};
+ghost use Rattle.cert_check.specs.Tables.{EachWithin, IsCleared, IsLeastOverflowed, stepped, sum_at};
 
 use crate::found::Found;
 use crate::nodes::Desk;
@@ -21,7 +21,7 @@ use linear_form::Term;
 /// A leaf whose rows, multiplied, sum to a contradiction.
 ///
 /// By Farkas' lemma such rows have no common solution. Only the columns that occur in the rows are
-/// summed and tested: a product with the coefficient 0 changes no sum, and never passes.
+/// summed and tested: a product with the coefficient 0 changes no sum, and never overflows.
 #[tactic(auto, unfolding(crate::specs::Causes::of_leaf))]
 pub(crate) fn leaf(clauses: &Clauses, desk: &mut Desk, parts: &[Part]) -> Found
     requires formed { IsWellFormed clauses.now }
@@ -72,7 +72,7 @@ fn of_part(clauses: &Clauses, path: &Path, part: Part) -> Found
 /// What the parts of a leaf come to beside the columns' sums.
 #[derive(Clone, Copy, Debug)]
 struct Total {
-    /// The multiplied bounds together; None where a product or a sum passed.
+    /// The multiplied bounds together; None where a product or a sum overflowed.
     bound: Option<i128>,
     /// A strict row has a multiplier above 0.
     strict: bool,
@@ -154,27 +154,27 @@ fn add_row(clauses: &Clauses, sums: &mut Sums, mult: i128, row: Row)
     }
 }
 
-/// What the rows of a leaf come to: the least column whose sum passed, then the bounds' sum, and then
+/// What the rows of a leaf come to: the least column whose sum overflowed, then the bounds' sum, and then
 /// whether they contradict.
 fn of_rows(clauses: &Clauses, sums: &Sums, total: Total) -> Found
     ensures found { (parts : List Part) → AreSums (rows_of clauses.now) parts sums.now → AreTotals (rows_of clauses.now) parts total → result ≡ of_rows (rows_of clauses.now) parts }
     ensures cleared { result ≡ Sound → IsCleared (length sums.now) sums.now }
 {
-    match sums.passed() {
-        Some(column) => Found::Passes(column),
+    match sums.overflowed() {
+        Some(column) => Found::Overflows(column),
         None => of_bound(clauses, sums, total),
     }
 }
 
-// The same where no column's sum passed.
+// The same where no column's sum overflowed.
 fn of_bound(clauses: &Clauses, sums: &Sums, total: Total) -> Found
-    requires { IsLeastPassed sums.now None }
+    requires { IsLeastOverflowed sums.now None }
     ensures found { (parts : List Part) → AreSums (rows_of clauses.now) parts sums.now → AreTotals (rows_of clauses.now) parts total → result ≡ of_rows (rows_of clauses.now) parts }
     ensures cleared { result ≡ Sound → IsCleared (length sums.now) sums.now }
 {
     match total.bound {
         Some(bound) => closed(sums.cancel(), impossible(bound, total.strict)),
-        None => Found::Passes(clauses.columns),
+        None => Found::Overflows(clauses.columns),
     }
 }
 

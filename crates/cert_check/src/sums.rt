@@ -3,23 +3,23 @@ ghost use Rattle.std.specs.Prelude.{◌≡◌, ◌↔◌, ℕ, ℤ, ◌+◌, ◌
 ghost use Rattle.whole.specs.Numbers.{IsWithin};
 ghost use Rattle.linear_form.specs.Reduced.{IsReduced};
 ghost use Rattle.linear_form.specs.Sums.{coef_at};
-ghost use Rattle.cert_check.specs.Tables.{stepped, sum_at, is_settled, weight, EachWithin, IsLeastPassed, IsCleared, least_of, passed_after};
+ghost use Rattle.cert_check.specs.Tables.{stepped, sum_at, is_settled, weight, EachWithin, IsLeastOverflowed, IsCleared, least_of, overflowed_after};
 
 use linear_form::Term;
 use std::alloc::Global;
 use std::marker::Model;
 use whole::{NoMemory, checked_fma};
 
-/// The running sum of each column; None where it passed 128 bits. Contracts see that list.
+/// The running sum of each column; None where it overflowed 128 bits. Contracts see that list.
 ///
-/// How many sums aren't 0, and the least column that passed, are kept on the way: so a leaf is
+/// How many sums aren't 0, and the least column that overflowed, are kept on the way: so a leaf is
 /// judged without a look at the columns that it doesn't name. All sums are 0 again after a leaf that
 /// closes, since they cancel.
 #[derive(Debug, Drop)]
 pub(crate) struct Sums {
     sums: Vec<Option<i128>>,
     unsettled: usize,
-    passed: Option<u32>,
+    overflowed: Option<u32>,
 }
 
 impl Model for Sums {
@@ -30,7 +30,7 @@ impl Model for Sums {
 
     ghost view = { λ s. s.sums.items };
 
-    ghost invariant = { λ s. Tallies s.sums.items s.unsettled s.passed };
+    ghost invariant = { λ s. Tallies s.sums.items s.unsettled s.overflowed };
 }
 
 impl Sums {
@@ -41,7 +41,7 @@ impl Sums {
         Ok(Sums {
             sums: Vec::from_elem(alloc, Some(0), columns as usize)?,
             unsettled: 0,
-            passed: None,
+            overflowed: None,
         })
     }
 
@@ -57,7 +57,7 @@ impl Sums {
         let after = stepped(before, mult, number);
         self.sums[column as usize] = after;
         self.unsettled = recounted(self.unsettled, before, after);
-        self.passed = passed_after(self.passed, after, column);
+        self.overflowed = overflowed_after(self.overflowed, after, column);
     }
 
     /// Adds the terms of a row, multiplied.
@@ -77,11 +77,11 @@ impl Sums {
         }
     }
 
-    /// The least column whose sum passed.
-    pub(crate) fn passed(&self) -> Option<u32>
-        ensures { IsLeastPassed self.now result }
+    /// The least column whose sum overflowed.
+    pub(crate) fn overflowed(&self) -> Option<u32>
+        ensures { IsLeastOverflowed self.now result }
     {
-        self.passed
+        self.overflowed
     }
 
     /// All sums are 0.
@@ -114,22 +114,22 @@ fn recounted(count: usize, before: Option<i128>, after: Option<i128>) -> usize
     }
 }
 
-fn least(passed: Option<u32>, column: u32) -> u32
-    ensures { result ≡ least_of passed column }
+fn least(overflowed: Option<u32>, column: u32) -> u32
+    ensures { result ≡ least_of overflowed column }
 {
-    match passed {
+    match overflowed {
         Some(least) if least < column => least,
         _ => column,
     }
 }
 
-// The least column that passed, after a column's sum has become this one.
-fn passed_after(passed: Option<u32>, after: Option<i128>, column: u32) -> Option<u32>
-    ensures { result ≡ passed_after after passed column }
+// The least column that overflowed, after a column's sum has become this one.
+fn overflowed_after(overflowed: Option<u32>, after: Option<i128>, column: u32) -> Option<u32>
+    ensures { result ≡ overflowed_after after overflowed column }
 {
     match after {
-        Some(_) => passed,
-        None => Some(least(passed, column)),
+        Some(_) => overflowed,
+        None => Some(least(overflowed, column)),
     }
 }
 
@@ -142,7 +142,7 @@ fn sum_of(sums: &[Option<i128>], column: u32) -> Option<i128>
     }
 }
 
-/// A running sum after one product more; None where it passed before or passes now.
+/// A running sum after one product more; None where it overflowed before or overflows now.
 pub(crate) fn stepped(sum: Option<i128>, mult: i128, number: i128) -> Option<i128>
     requires sum { (z : ℤ) → sum ≡ Some z → IsWithin z }
     requires mult { IsWithin mult }

@@ -4,7 +4,7 @@ use Rattle.std.proofs.Common.{get_or, refl}
 use Rattle.whole.specs.declared.answers.Refusal.{Refusal}
 use Rattle.text_lines.specs.Pieces.{pieces}
 use Rattle.text_machine.specs.declared.faults.Fault.{Fault}
-use Rattle.text_machine.specs.declared.faults.Fault.TheVariants.{Form, Large, Negative, Place, Early}
+use Rattle.text_machine.specs.declared.faults.Fault.TheVariants.{Form, Large, Negative, Misplaced, Early}
 use Rattle.text_machine.specs.Items.{natural, index, below, literal, one_of}
 use Rattle.text_machine.specs.Lines.{LineForm, stop, word, number, many, ends, fails, read_line}
 use Rattle.text_machine.specs.Texts.{Format, FirstRefused, named}
@@ -58,10 +58,10 @@ abbrev pub farkas_form : LineForm
 farkas_form = number (index index_limit) (λ count. pairs (unsigned_abs count))
 
 abbrev pub next_forms : ℕ → List LineForm
-next_forms j = lemma_form j ∷ end_form j ∷ fails Place ∷ fails Place ∷ fails Place ∷ []
+next_forms j = lemma_form j ∷ end_form j ∷ fails Misplaced ∷ fails Misplaced ∷ fails Misplaced ∷ []
 
 abbrev pub node_forms : List LineForm
-node_forms = fails Place ∷ fails Place ∷ index_form ∷ index_form ∷ farkas_form ∷ []
+node_forms = fails Misplaced ∷ fails Misplaced ∷ index_form ∷ index_form ∷ farkas_form ∷ []
 
 abbrev pub next_form : ℕ → LineForm
 next_form j = number (one_of words refl) (form_at (next_forms j))
@@ -71,7 +71,7 @@ node_form = number (one_of words refl) (form_at node_forms)
 
 -- no node may stand here
 abbrev pub deep_forms : List LineForm
-deep_forms = fails Place ∷ fails Place ∷ fails Form ∷ fails Form ∷ fails Form ∷ []
+deep_forms = fails Misplaced ∷ fails Misplaced ∷ fails Form ∷ fails Form ∷ fails Form ∷ []
 
 abbrev pub deep_form : LineForm
 deep_form = number (one_of words refl) (form_at deep_forms)
@@ -93,7 +93,7 @@ size_rule _ = 2
 -- F3; or F6 where a number is past its range, F7 for a node, F9 for an `end` before the first lemma
 abbrev pub next_rule : Fault → ℕ
 next_rule Large = 6
-next_rule Place = 7
+next_rule Misplaced = 7
 next_rule Early = 9
 next_rule _ = 3
 
@@ -101,12 +101,12 @@ next_rule _ = 3
 abbrev pub node_rule : Fault → ℕ
 node_rule Negative = 4
 node_rule Large = 6
-node_rule Place = 7
+node_rule Misplaced = 7
 node_rule _ = 5
 
 -- F6, or F7 for `lemma` or `end`
 abbrev pub deep_rule : Fault → ℕ
-deep_rule Place = 7
+deep_rule Misplaced = 7
 deep_rule _ = 6
 
 -- the rule that a line breaks by this fault
@@ -127,7 +127,7 @@ ended _ k rest = refusal 8 k
 
 -- the numbers of a line of this form
 abbrev pub form_read : Option LineForm → List (List ℕ) → Result (List ℤ) Fault
-form_read None items = Err Place
+form_read None items = Err Misplaced
 form_read (Some form) items = read_line form items
 
 -- the numbers of line k, or the first rule that it breaks

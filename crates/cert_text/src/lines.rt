@@ -96,7 +96,7 @@ fn next_rule(fault: Fault) -> u8
 {
     match fault {
         Fault::Large => 6,
-        Fault::Place => 7,
+        Fault::Misplaced => 7,
         Fault::Early => 9,
         _ => 3,
     }
@@ -108,7 +108,7 @@ fn node_rule(fault: Fault) -> u8
     match fault {
         Fault::Negative => 4,
         Fault::Large => 6,
-        Fault::Place => 7,
+        Fault::Misplaced => 7,
         _ => 5,
     }
 }
@@ -117,7 +117,7 @@ fn deep_rule(fault: Fault) -> u8
     ensures { result ≡ deep_rule fault }
 {
     match fault {
-        Fault::Place => 7,
+        Fault::Misplaced => 7,
         _ => 6,
     }
 }
@@ -134,7 +134,7 @@ fn line_of(alloc: Global, line: &[u8], want: Want) -> Result<Line, LineFault>
         Want::Next { lemma } => next_of(alloc, line, lemma),
         Want::Node { depth } if depth <= DEEPEST => node_of(alloc, line),
         Want::Node { .. } => Err(LineFault::Item(deep_of(line))),
-        Want::Nothing => Err(LineFault::Item(Fault::Place)),
+        Want::Nothing => Err(LineFault::Item(Fault::Misplaced)),
     }
 }
 
@@ -181,7 +181,9 @@ fn next_of(alloc: Global, line: &[u8], lemma: u32) -> Result<Line, LineFault>
             last_of(&mut fields, lemma)?;
             Ok(Line::End)
         }
-        Keyword::Split | Keyword::Clause | Keyword::Farkas => Err(LineFault::Item(Fault::Place)),
+        Keyword::Split | Keyword::Clause | Keyword::Farkas => Err(LineFault::Item(
+            Fault::Misplaced,
+        )),
     }
 }
 
@@ -196,7 +198,7 @@ fn node_of(alloc: Global, line: &[u8]) -> Result<Line, LineFault>
         Keyword::Split => Ok(Line::Split(index_of(&mut fields)?)),
         Keyword::Clause => Ok(Line::Clause(index_of(&mut fields)?)),
         Keyword::Farkas => Ok(Line::Farkas(parts_of(alloc, &mut fields)?)),
-        Keyword::Lemma | Keyword::End => Err(LineFault::Item(Fault::Place)),
+        Keyword::Lemma | Keyword::End => Err(LineFault::Item(Fault::Misplaced)),
     }
 }
 
@@ -211,7 +213,7 @@ fn deep_of(line: &[u8]) -> Fault
         Err(fault) => return fault,
     };
     match word {
-        Keyword::Lemma | Keyword::End => Fault::Place,
+        Keyword::Lemma | Keyword::End => Fault::Misplaced,
         Keyword::Split | Keyword::Clause | Keyword::Farkas => Fault::Form,
     }
 }

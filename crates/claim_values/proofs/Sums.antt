@@ -6,12 +6,12 @@ use Rattle.std.proofs.lemmas.Int.{to_z-of_z, fits_signed_from_abs}
 use Rattle.std.specs.Int.{w128}
 use Rattle.weighing.specs.Weight.{Weight}
 use Rattle.weighing.specs.Weighed.{weighed_from}
-use Rattle.weighing.specs.declared.weighings.Term.{Term}
+use Rattle.weighing.specs.declared.weighings.Summand.{Summand}
 use Rattle.run_rows.specs.Runs.{IsEntry}
 use Rattle.path_server.proofs.Flows.{weighed-append}
 
 -- one of a row of pieces more
-pub piece_more : {X : Type 0} (pieces : X → List Term) (w v all : Weight) (xs : List X) (i : ℕ) (d : X) → i < length xs
+pub piece_more : {X : Type 0} (pieces : X → List Summand) (w v all : Weight) (xs : List X) (i : ℕ) (d : X) → i < length xs
     → weighed_from w (flat_map pieces (drop i xs)) ≡ all → v ≡ weighed_from w (pieces (get_or xs i d))
     → weighed_from v (flat_map pieces (drop (i + 1) xs)) ≡ all
 piece_more pieces w v all xs i d inside so_far here =

@@ -5,7 +5,7 @@ use Rattle.std.proofs.lemmas.List.{map-append}
 use Rattle.condition_tree.specs.Trees.{Tree, always, never, leaf, opposite, end_of_all, all_of, end_of_any, any_of}
 use Rattle.weighing.specs.Claim.{Claim, Claims, Compared}
 use Rattle.weighing.specs.Weighed.{times}
-use Rattle.weighing.specs.declared.weighings.Term.{Term}
+use Rattle.weighing.specs.declared.weighings.Summand.{Summand}
 use Rattle.run_rows.specs.Columns.{HasEntry, HasFlow, column_of, rows_of, value_at, value_of}
 use Rattle.run_rows.specs.Runs.{flow_of, row_of, no_flow, no_row, state_count}
 use Rattle.run_rows.specs.declared.columns.Entry.{Entry}
@@ -42,7 +42,7 @@ pub same_claim : (s : Shape) (v w : Subject → ℤ) → Agree s v w → (c : Sy
 same_claim s v w agree always over = refl
 same_claim s v w agree never over = refl
 same_claim s v w agree (leaf c) over =
-    ap (λ ts. let d : Compared Term = record { terms = ts; rel = c.rel } in leaf d) (same_terms s v w agree c.terms over)
+    ap (λ ts. let d : Compared Summand = record { terms = ts; rel = c.rel } in leaf d) (same_terms s v w agree c.terms over)
 same_claim s v w agree (opposite c) over = ap opposite (same_claim s v w agree c over)
 same_claim s v w agree end_of_all over = refl
 same_claim s v w agree (all_of c d) over =

@@ -4,7 +4,7 @@ use Rattle.std.specs.Prelude.{ℕ, zero, suc, ◌+◌, ℤ, List, [], ◌++◌, 
 use Rattle.condition_tree.specs.Trees.{with_leaves}
 use Rattle.weighing.specs.Claim.{Claim, Claims, Compared}
 use Rattle.weighing.specs.Weighed.{times}
-use Rattle.weighing.specs.declared.weighings.Term.{Term}
+use Rattle.weighing.specs.declared.weighings.Summand.{Summand}
 use Rattle.run_rows.specs.Columns.{value_of}
 use Rattle.run_rows.specs.declared.columns.Entry.{Entry}
 use Rattle.run_rows.specs.declared.columns.Entry.TheVariants.{Credit, W, A, S, L, X}
@@ -39,10 +39,10 @@ worth r constant = r.over
 worth r (entry e) = value_of r e
 
 -- a term by values of the subjects, and by those that they have in a run
-abbrev pub by_values : (Subject → ℤ) → ℤ → Subject → Term
+abbrev pub by_values : (Subject → ℤ) → ℤ → Subject → Summand
 by_values v k of = times k (v of)
 
-abbrev pub in_run : Run → ℤ → Subject → Term
+abbrev pub in_run : Run → ℤ → Subject → Summand
 in_run r = by_values (worth r)
 
 -- a term as it is written

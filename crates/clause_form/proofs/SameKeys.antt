@@ -83,7 +83,7 @@ same_form-exact x y h =
     let terms = same_items (term_eq.ghosts).eq same_term x.terms y.terms h in
     λ i. record { terms = terms i }
 
--- ---- and each passes for itself
+-- ---- and each overflows for itself
 
 same_items-itself : {T : Type 0} (same : T → T → Bool) → ((x : T) → same x x ≡ true) → (xs : List T) → pointwise same xs xs ≡ true
 same_items-itself same itself [] = refl

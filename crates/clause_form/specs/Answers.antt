@@ -10,7 +10,7 @@ use Rattle.clause_form.specs.Building.{Build, limit_of}
 abbrev pub build_of : Builder → Build
 build_of b = record { columns = b.columns; forms = b.forms.keys; keys = b.keys.keys; clauses = b.clauses }
 
--- Large comes where the definition passes that limit
+-- Large comes where the definition exceeds that limit
 abbrev pub Fails : {Y : Type 0} → BuildFault → Result Y What → Type 0
 Fails NoMemory answer = Unit {0}
 Fails (Large what limit) answer = (answer ≡ Err what) × (limit ≡ limit_of what)

@@ -89,7 +89,7 @@ pub record IsContradiction (c : Rows) (path : List Lit) (parts : List Part) : Ty
   pub columns : (column : ℕ) → column < c.columns → coef_sum c column parts ≡ pos 0
   pub bound : (bound_sum c parts <ℤ pos 0) ⊎ ((bound_sum c parts ≡ pos 0) × HasStrict c parts)
 
--- the same sums from a start on, taken part by part within 128 bits, as a checker takes them; none where one passes
+-- the same sums from a start on, taken part by part within 128 bits, as a checker takes them; none where one overflows
 abbrev pub running_sum : Rows → (LitRow → ℤ) → ℤ → List Part → Option ℤ
 running_sum c number sum [] = Some sum
 running_sum c number sum (p ∷ ps) = option_and_then (λ s. running_sum c number s ps) (fma sum p.mult (number_in number (row_of c p.lit)))

@@ -26,17 +26,17 @@ pub data Last : Type 0 where
   cut : Last
 
 -- what a journal reaches
-pub record Place (S : Type 0) : Type 0 where
+pub record Reached (S : Type 0) : Type 0 where
   pub trail : List Entry
   pub lemmas : List (List Lit)
   pub state : S
   pub last : Last
 
-abbrev pub opened : {S : Type 0} → S → Place S
+abbrev pub opened : {S : Type 0} → S → Reached S
 opened s = record { trail = []; lemmas = []; state = s; last = nothing }
 
 -- the problem's clauses, and then the lemmas
-abbrev pub known_at : {S : Type 0} → Clauses → Place S → List (List Lit)
+abbrev pub known_at : {S : Type 0} → Clauses → Reached S → List (List Lit)
 known_at c p = c.clauses ++ p.lemmas
 
 -- ---- what a move needs
@@ -64,7 +64,7 @@ DiffersFromEach clause [] = Unit {0}
 DiffersFromEach clause (lemma ∷ lemmas) = (AreAmong clause lemma × AreAmong lemma clause → ⊥) × DiffersFromEach clause lemmas
 
 -- a clause that is false on the trail, new, and follows from what is known; the trail is cut
-pub record IsLearned {S : Type 0} (c : Clauses) (p : Place S) (clause : List Lit) (keep : ℕ) : Type 0 where
+pub record IsLearned {S : Type 0} (c : Clauses) (p : Reached S) (clause : List Lit) (keep : ℕ) : Type 0 where
   pub false_here : IsFalseOn (literals p.trail) clause
   pub once : NamesOnce (length c.atoms) clause
   pub differs : DiffersFromEach clause p.lemmas
@@ -82,7 +82,7 @@ IsSettled [] lits = Unit {0}
 IsSettled (clause ∷ known) lits = IsOpenClause lits clause × IsSettled known lits
 
 module _ {S : Type 0} (R : Relations S) (c : Clauses) where
-  abbrev pub IsAllowed : Place S → Move → Type 0
+  abbrev pub IsAllowed : Reached S → Move → Type 0
   IsAllowed p (Decide l) = IsFree (length c.atoms) (literals p.trail) l
   IsAllowed p (Propagate l n) = IsFree (length c.atoms) (literals p.trail) l × IsReason (known_at c p) (literals p.trail) l n
   IsAllowed p (Pivot b o) = R.allowed_pivot p.state b o
@@ -90,17 +90,17 @@ module _ {S : Type 0} (R : Relations S) (c : Clauses) where
 
   -- after a literal whose bound contradicts, only a conflict follows; a decision stands where nothing is violated and all is
   -- propagated; a row of pivots follows a literal
-  abbrev pub IsOrderly : Place S → Move → Type 0
+  abbrev pub IsOrderly : Reached S → Move → Type 0
   IsOrderly p (Decide l) = (p.last ≡ literal → R.contradicts p.state → ⊥) × (R.violated p.state → ⊥) × IsSettled (known_at c p) (literals p.trail)
   IsOrderly p (Propagate l n) = p.last ≡ literal → R.contradicts p.state → ⊥
   IsOrderly p (Pivot b o) = (p.last ≡ literal → R.contradicts p.state → ⊥) × ((p.last ≡ literal) ⊎ (p.last ≡ exchange))
   IsOrderly p (Conflict clause keep) = Unit {0}
 
-  abbrev pub MayMove : Place S → Move → Type 0
+  abbrev pub MayMove : Reached S → Move → Type 0
   MayMove p m = IsAllowed p m × IsOrderly p m
 
   -- where a move leads
-  abbrev pub Leads : Place S → Move → Place S → Type 0
+  abbrev pub Leads : Reached S → Move → Reached S → Type 0
   Leads p (Decide l) q =
       (q.trail ≡ p.trail ++ record { lit = l; by = None } ∷ []) × (q.lemmas ≡ p.lemmas) × R.after_literal p.state l q.state × (q.last ≡ literal)
   Leads p (Propagate l n) q =
@@ -110,11 +110,11 @@ module _ {S : Type 0} (R : Relations S) (c : Clauses) where
       (q.trail ≡ take keep p.trail) × (q.lemmas ≡ p.lemmas ++ clause ∷ []) × R.after_undo p.state keep q.state × (q.last ≡ cut)
 
   -- the moves may be made one after the other, and lead from one place to the other
-  abbrev pub Moves : Place S → List Move → Place S → Type 0
+  abbrev pub Moves : Reached S → List Move → Reached S → Type 0
   Moves p [] q = p ≡ q
-  Moves p (m ∷ ms) q = MayMove p m × ((r : Place S) × Leads p m r × Moves r ms q)
+  Moves p (m ∷ ms) q = MayMove p m × ((r : Reached S) × Leads p m r × Moves r ms q)
 
-  abbrev pub Reaches : List Move → Place S → Type 0
+  abbrev pub Reaches : List Move → Reached S → Type 0
   Reaches ms q = (s : S) × R.opening s × Moves (opened s) ms q
 
   -- decisions, propagations and pivots are charged
@@ -126,7 +126,7 @@ module _ {S : Type 0} (R : Relations S) (c : Clauses) where
 
   -- some further charged move may be made
   abbrev pub IsOpen : List Move → Type 0
-  IsOpen ms = (p : Place S) × (m : Move) × Reaches ms p × (is_charged m ≡ true) × MayMove p m
+  IsOpen ms = (p : Reached S) × (m : Move) × Reaches ms p × (is_charged m ≡ true) × MayMove p m
 
   abbrev pub SticksIn : S → Move → Stuck → Type 0
   SticksIn s (Decide l) k = R.stuck_in_literal s l k
@@ -134,8 +134,8 @@ module _ {S : Type 0} (R : Relations S) (c : Clauses) where
   SticksIn s (Pivot b o) k = R.stuck_in_pivot s b o k
   SticksIn s (Conflict clause keep) k = ⊥
 
-  -- an operation passes at the place reached, or while the last move is carried out
+  -- an operation overflows at the place reached, or while the last move is carried out
   abbrev pub Sticks : List Move → Stuck → Type 0
   Sticks ms k =
-      ((p : Place S) × Reaches ms p × R.stuck_at p.state k)
-      ⊎ ((front : List Move) × (m : Move) × (p : Place S) × (ms ≡ front ++ m ∷ []) × Reaches front p × MayMove p m × SticksIn p.state m k)
+      ((p : Reached S) × Reaches ms p × R.stuck_at p.state k)
+      ⊎ ((front : List Move) × (m : Move) × (p : Reached S) × (ms ≡ front ++ m ∷ []) × Reaches front p × MayMove p m × SticksIn p.state m k)

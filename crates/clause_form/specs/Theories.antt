@@ -40,7 +40,7 @@ pub data Rest : Type 0 where
   without_memory : Rest
   stuck : Stuck → Rest
 
-pub record Seen (S : Type 0) : Type 0 where
+pub record TheoryView (S : Type 0) : Type 0 where
   -- the columns, forms and atoms that it stands for
   pub rows : Rows
   -- the literals told, the latest last
@@ -65,15 +65,15 @@ abbrev pub HasSolution : Rows → List Lit → Type 0
 HasSolution rows told = (value : ℕ → ℤ) × (over : ℕ) × (0 < over) × AreMet rows value over told
 
 module _ {S : Type 0} (R : Relations S) where
-  -- the parts are a contradiction of the literals told, which no checker's sum passes, and a clash of the state
-  pub record HasClash (new : Seen S) (parts : List Part) : Type 0 where
+  -- the parts are a contradiction of the literals told, which no checker's sum overflows, and a clash of the state
+  pub record HasClash (new : TheoryView S) (parts : List Part) : Type 0 where
     pub few : length parts ≤ 2049
     pub contradiction : IsContradiction new.rows new.told parts
     pub fits : SumsFit new.rows parts
     pub clash : R.clash new.state (map (λ p. p.lit) parts)
 
   -- the literal was told
-  pub record TookLiteral (old : Seen S) (l : Lit) (new : Seen S) : Type 0 where
+  pub record TookLiteral (old : TheoryView S) (l : Lit) (new : TheoryView S) : Type 0 where
     pub rows : new.rows ≡ old.rows
     pub told : new.told ≡ old.told ++ l ∷ []
     pub state : R.after_literal old.state l new.state
@@ -86,7 +86,7 @@ module _ {S : Type 0} (R : Relations S) where
   PivotsLead s (p ∷ ps) t = R.allowed_pivot s p.0 p.1 × ((u : S) × R.after_pivot s p.0 p.1 u × PivotsLead u ps t)
 
   -- the pivots were made, and nothing was told
-  pub record MadePivots (old : Seen S) (ps : List (ℕ × ℕ)) (new : Seen S) : Type 0 where
+  pub record MadePivots (old : TheoryView S) (ps : List (ℕ × ℕ)) (new : TheoryView S) : Type 0 where
     pub rows : new.rows ≡ old.rows
     pub told : new.told ≡ old.told
     pub state : PivotsLead old.state ps new.state
@@ -94,11 +94,11 @@ module _ {S : Type 0} (R : Relations S) where
 
   -- ---- tell
 
-  -- an operation passed while the literal was carried out, or at the state after it
+  -- an operation overflowed while the literal was carried out, or at the state after it
   abbrev pub StuckAfterLiteral : S → Lit → Stuck → Type 0
   StuckAfterLiteral s l k = R.stuck_in_literal s l k ⊎ ((t : S) × R.after_literal s l t × R.stuck_at t k)
 
-  abbrev pub HearsLiteralAtWork : Seen S → Lit → Heard → Seen S → Type 0
+  abbrev pub HearsLiteralAtWork : TheoryView S → Lit → Heard → TheoryView S → Type 0
   HearsLiteralAtWork old l heard.Fine new = TookLiteral old l new × (new.owes ≡ false) × (R.contradicts new.state → ⊥)
   HearsLiteralAtWork old l (heard.Clash parts) new = TookLiteral old l new × (new.owes ≡ true) × HasClash new parts
   HearsLiteralAtWork old l heard.Spent new = ⊥
@@ -111,19 +111,19 @@ module _ {S : Type 0} (R : Relations S) where
   Repeats without_memory answer new = (answer ≡ heard.NoMemory) × (new ≡ without_memory)
   Repeats (stuck k) answer new = (answer ≡ heard.Stuck k) × (new ≡ stuck k)
 
-  pub record HearsLiteral (old : Seen S) (l : Lit) (answer : Heard) (new : Seen S) : Type 0 where
+  pub record HearsLiteral (old : TheoryView S) (l : Lit) (answer : Heard) (new : TheoryView S) : Type 0 where
     pub at_work : old.rest ≡ works → HearsLiteralAtWork old l answer new
     pub at_rest : Repeats old.rest answer new.rest
 
   -- ---- check
 
-  -- an operation passed while the last pivot was carried out, or at the state reached
+  -- an operation overflowed while the last pivot was carried out, or at the state reached
   abbrev pub StuckAfterPivots : S → List (ℕ × ℕ) → Stuck → Type 0
   StuckAfterPivots s ps k =
       ((front : List (ℕ × ℕ)) × (last : ℕ × ℕ) × (t : S) × (ps ≡ front ++ last ∷ []) × PivotsLead s front t × R.allowed_pivot t last.0 last.1 × R.stuck_in_pivot t last.0 last.1 k)
       ⊎ ((t : S) × PivotsLead s ps t × R.stuck_at t k)
 
-  abbrev pub HearsCheckAtWork : Seen S → List (ℕ × ℕ) → Heard → Seen S → Counts → Type 0
+  abbrev pub HearsCheckAtWork : TheoryView S → List (ℕ × ℕ) → Heard → TheoryView S → Counts → Type 0
   HearsCheckAtWork old ps heard.Fine new after =
       MadePivots old ps new × (new.fine ≡ true) × (new.owes ≡ false)
       × (R.contradicts new.state → ⊥) × (R.violated new.state → ⊥) × HasSolution new.rows new.told
@@ -135,7 +135,7 @@ module _ {S : Type 0} (R : Relations S) where
   HearsCheckAtWork old ps heard.NoMemory new after = (new.rest ≡ without_memory) × (new.rows ≡ old.rows)
 
   -- each pivot is charged and written, and nothing else
-  pub record HearsCheck (old : Seen S) (answer : Heard) (new : Seen S) (before after : Budget) (journal written : Journal) : Type 0 where
+  pub record HearsCheck (old : TheoryView S) (answer : Heard) (new : TheoryView S) (before after : Budget) (journal written : Journal) : Type 0 where
     pub pivots : List (ℕ × ℕ)
     pub charged : counts after ≡ record { limit = before.limit; decisions = before.decisions; propagations = before.propagations; pivots = before.pivots + length pivots; conflicts = before.conflicts }
     pub moves : written.moves ≡ journal.moves ++ map (λ p. Pivot p.0 p.1) pivots

@@ -1,7 +1,7 @@
 // The trait of theories: what a search over clauses asks of the arithmetic.
 ghost use Rattle.std.specs.Prelude.{◌≡◌, ℕ, ◌-◌, ◌<◌, ◌≤◌, ◌^◌, false, nat_lt, take, length, if◌then◌else◌};
 ghost use Rattle.clause_form.specs.Derivations.{HasAtom};
-ghost use Rattle.clause_form.specs.Theories.{HearsCheck, HearsLiteral, Relations, Seen};
+ghost use Rattle.clause_form.specs.Theories.{HearsCheck, HearsLiteral, Relations, TheoryView};
 
 use farkas_cert::{Journal, Lit, Part};
 use sqlite_items::Items;
@@ -16,7 +16,7 @@ pub enum Heard {
     Clash(Items<Part>),
     /// The budget is spent, and some pivot may be made.
     Spent,
-    /// An operation passed.
+    /// An operation overflowed.
     Stuck(Stuck),
     NoMemory,
 }
@@ -31,7 +31,7 @@ pub trait Theory {
     ghost relations: { Relations State };
 
     /// What was told, the state reached, and what the last call answered.
-    ghost seen: { Self → Seen State };
+    ghost seen: { Self → TheoryView State };
 
     /// At an opening no bounds contradict, and nothing is violated.
     ghost begins_calm: { (s : State) → relations.opening s → (relations.contradicts s → ⊥) × (relations.violated s → ⊥) };

@@ -9,7 +9,7 @@ use Rattle.clause_form.specs.declared.clauses.Clauses.{Clauses}
 use Rattle.clause_form.specs.Derivations.{Has, HasAtom, IsFalseOn, Rows, rows_of}
 use Rattle.clause_form.specs.Journals.{Entry, IsFree, IsReason, IsSettled, Last, Reaches, cut, literal, literals}
 use Rattle.clause_form.specs.Models.{HasTrue, Satisfies}
-use Rattle.clause_form.specs.Theories.{HasSolution, Relations, Seen}
+use Rattle.clause_form.specs.Theories.{HasSolution, Relations, TheoryView}
 use Rattle.clause_form.specs.WellFormed.{Below}
 use Rattle.learned_clause.specs.Trails.{known_with}
 use Rattle.clause_search.specs.declared.course.Course.{Course}
@@ -32,7 +32,7 @@ use Rattle.clause_search.proofs.JournalLaws.{reaches_of}
 
 -- ---- propagations and decisions
 
-calm_in : {S : Type 0} (R : Relations S) (c : Clauses) (s : S) (trail : List Entry) (lemmas : List Lemma) (last : Last) (seen : Seen S) (phase : Phase)
+calm_in : {S : Type 0} (R : Relations S) (c : Clauses) (s : S) (trail : List Entry) (lemmas : List Lemma) (last : Last) (seen : TheoryView S) (phase : Phase)
     → (phase ≡ Told → ⊥) → IsInPhase R c s trail lemmas last seen phase → (seen.owes ≡ false) × (last ≡ literal → R.contradicts seen.state → ⊥)
 calm_in R c s trail lemmas last seen Told moved is = absurd (moved refl)
 calm_in R c s trail lemmas last seen Checked moved is = (is.0, λ e. is.1)
@@ -41,7 +41,7 @@ calm_in R c s trail lemmas last seen Cut moved is = (is.0, λ e. absurd (other (
     other : cut ≡ literal → ⊥
     other e = cc
 
-taught_in : {S : Type 0} (R : Relations S) (c : Clauses) (s : S) (trail : List Entry) (lemmas : List Lemma) (last : Last) (seen : Seen S) (phase : Phase)
+taught_in : {S : Type 0} (R : Relations S) (c : Clauses) (s : S) (trail : List Entry) (lemmas : List Lemma) (last : Last) (seen : TheoryView S) (phase : Phase)
     → (phase ≡ Told → ⊥) → IsInPhase R c s trail lemmas last seen phase → last ≡ cut → IsTaught (known_with c.clauses lemmas) (literals trail)
 taught_in R c s trail lemmas last seen Told moved is e = absurd (moved refl)
 taught_in R c s trail lemmas last seen Checked moved is e = absurd (is.5 e)
@@ -63,7 +63,7 @@ unsettled known lits taught settled =
     let last = settled_back taught.before (taught.lemma ∷ []) lits (subst (λ (ks : List (List Lit)). IsSettled ks lits) taught.is settled) in
     last.0.not_unit taught.single.late taught.single.has taught.single.off taught.single.others
 
-solved_in : {S : Type 0} (R : Relations S) (c : Clauses) (s : S) (trail : List Entry) (lemmas : List Lemma) (last : Last) (seen : Seen S) (phase : Phase)
+solved_in : {S : Type 0} (R : Relations S) (c : Clauses) (s : S) (trail : List Entry) (lemmas : List Lemma) (last : Last) (seen : TheoryView S) (phase : Phase)
     → phase ≡ Checked → IsInPhase R c s trail lemmas last seen phase → HasSolution seen.rows seen.told
 solved_in R c s trail lemmas last seen Told e is = absurd (cc)
 solved_in R c s trail lemmas last seen Checked e is = is.4
@@ -77,7 +77,7 @@ in_range c lemmas l known k clause is has = below_has (length c.atoms) l clause 
 some_none : (n : ℕ) → ◌≡◌ {A = Option ℕ} (Some n) None → ⊥
 some_none n e = cc
 
-pub may_propagate : {S : Type 0} (R : Relations S) (c : Clauses) (s : S) (course : Course) (seen : Seen S) (n : Counts) (l : Lit) (by : ℕ)
+pub may_propagate : {S : Type 0} (R : Relations S) (c : Clauses) (s : S) (course : Course) (seen : TheoryView S) (n : Counts) (l : Lit) (by : ℕ)
     → IsPropagating R c s course seen n l by → IsLegal R c s course.trail course.lemmas course.journal.moves seen n l (Some by)
 may_propagate R c s course seen n l by ((at, moved), follows) =
     let calm = calm_in R c s course.trail.entries course.lemmas at.last seen course.phase moved at.in_phase in
@@ -101,14 +101,14 @@ may_propagate R c s course seen n l by ((at, moved), follows) =
       solved = λ e. absurd (some_none by e);
     }
 
-rested_in : {S : Type 0} (R : Relations S) (c : Clauses) (s : S) (trail : List Entry) (lemmas : List Lemma) (last : Last) (seen : Seen S) (phase : Phase)
+rested_in : {S : Type 0} (R : Relations S) (c : Clauses) (s : S) (trail : List Entry) (lemmas : List Lemma) (last : Last) (seen : TheoryView S) (phase : Phase)
     → (phase ≡ Told → ⊥) → IsSettled (known_with c.clauses lemmas) (literals trail) → IsInPhase R c s trail lemmas last seen phase
     → (phase ≡ Checked) × (R.violated seen.state → ⊥)
 rested_in R c s trail lemmas last seen Told moved settled is = absurd (moved refl)
 rested_in R c s trail lemmas last seen Checked moved settled is = (refl, is.2)
 rested_in R c s trail lemmas last seen Cut moved settled is = absurd (unsettled (known_with c.clauses lemmas) (literals trail) is.2 settled)
 
-pub may_decide : {S : Type 0} (R : Relations S) (c : Clauses) (s : S) (course : Course) (seen : Seen S) (n : Counts) (wish : Option Lit) (l : Lit)
+pub may_decide : {S : Type 0} (R : Relations S) (c : Clauses) (s : S) (course : Course) (seen : TheoryView S) (n : Counts) (wish : Option Lit) (l : Lit)
     → IsDeciding R c s course seen n wish → IsFree course.trail.atoms (literals course.trail.entries) l
     → IsLegal R c s course.trail course.lemmas course.journal.moves seen n l None
 may_decide R c s course seen n wish l ((at, moved), settled, wished) free =
@@ -127,7 +127,7 @@ may_decide R c s course seen n wish l ((at, moved), settled, wished) free =
       solved = λ e. subst (λ (r : Rows). HasSolution r (literals course.trail.entries)) at.underway.rows (subst (λ (ls : List Lit). HasSolution seen.rows ls) at.underway.told (solved_in R c s course.trail.entries course.lemmas at.last seen course.phase rested.0 at.in_phase));
     }
 
-pub wish_free : {S : Type 0} (R : Relations S) (c : Clauses) (s : S) (course : Course) (seen : Seen S) (n : Counts) (wish : Option Lit)
+pub wish_free : {S : Type 0} (R : Relations S) (c : Clauses) (s : S) (course : Course) (seen : TheoryView S) (n : Counts) (wish : Option Lit)
     → IsDeciding R c s course seen n wish → IfFree course.trail wish
 wish_free R c s course seen n None d = tt
 wish_free R c s course seen n (Some l) ((at, moved), settled, wished) = (
@@ -135,7 +135,7 @@ wish_free R c s course seen n (Some l) ((at, moved), settled, wished) = (
   wished.off,
 )
 
-pub complete : {S : Type 0} (R : Relations S) (c : Clauses) (s : S) (course : Course) (seen : Seen S) (n : Counts) (wish : Option Lit)
+pub complete : {S : Type 0} (R : Relations S) (c : Clauses) (s : S) (course : Course) (seen : TheoryView S) (n : Counts) (wish : Option Lit)
     → IsDeciding R c s course seen n wish → Chooses course.trail None → IsComplete R c s course seen n
 complete R c s course seen n wish ((at, moved), settled, wished) whole = record {
   at = at;
@@ -146,20 +146,20 @@ complete R c s course seen n wish ((at, moved), settled, wished) whole = record 
 
 -- ---- stops
 
-pub paused : {S : Type 0} (R : Relations S) (c : Clauses) (s : S) (course : Course) (seen : Seen S) (n : Counts) (wish : Option Lit)
+pub paused : {S : Type 0} (R : Relations S) (c : Clauses) (s : S) (course : Course) (seen : TheoryView S) (n : Counts) (wish : Option Lit)
     → IsDeciding R c s course seen n wish → IsPaused R c s course seen n
 paused R c s course seen n wish ((at, moved), settled, wished) = record {
   at = at;
   checked = (rested_in R c s course.trail.entries course.lemmas at.last seen course.phase moved settled at.in_phase).0;
 }
 
-pub calm_of : {S : Type 0} (R : Relations S) (c : Clauses) (s : S) (course : Course) (seen : Seen S) (n : Counts)
+pub calm_of : {S : Type 0} (R : Relations S) (c : Clauses) (s : S) (course : Course) (seen : TheoryView S) (n : Counts)
     → IsPaused R c s course seen n → IsCalm R seen
 calm_of R c s course seen n is =
     let phase : IsInPhase R c s course.trail.entries course.lemmas is.at.last seen Checked = subst (λ (p : Phase). IsInPhase R c s course.trail.entries course.lemmas is.at.last seen p) is.checked is.at.in_phase in
     record { fine = phase.3; paid = phase.0; at_work = is.at.underway.at_work; solution = phase.4; calm = phase.2 }
 
-pub stopped : {S : Type 0} (R : Relations S) (c : Clauses) (s : S) (course : Course) (seen : Seen S) (n : Counts) (journal : Journal)
+pub stopped : {S : Type 0} (R : Relations S) (c : Clauses) (s : S) (course : Course) (seen : TheoryView S) (n : Counts) (journal : Journal)
     → IsPaused R c s course seen n → journal ≡ course.journal → IsStopped (starting_at s R) c seen n journal.moves
 stopped R c s course seen n journal is same =
     subst (λ (j : Journal). IsStopped (starting_at s R) c seen n j.moves) (sym same) (record {
@@ -174,12 +174,12 @@ stopped R c s course seen n journal is same =
       tally = is.at.underway.tally;
     })
 
-pub made_as : {S : Type 0} (R : Relations S) (c : Clauses) (s : S) (work : ℕ) (course : Course) (seen : Seen S) (n : Counts) (a b : Step) → a ≡ b
+pub made_as : {S : Type 0} (R : Relations S) (c : Clauses) (s : S) (work : ℕ) (course : Course) (seen : TheoryView S) (n : Counts) (a b : Step) → a ≡ b
     → Steps R c s work course seen n a → Steps R c s work course seen n b
 made_as R c s work course seen n a b same made = subst (λ (m : Step). Steps R c s work course seen n m) same made
 
 -- a stop that was allowed is one
-pub found_until : {S : Type 0} (R : Relations S) (c : Clauses) (may : Bool) (stop : Type 0) (seen : Seen S) (n : Counts) (answer : Until)
+pub found_until : {S : Type 0} (R : Relations S) (c : Clauses) (may : Bool) (stop : Type 0) (seen : TheoryView S) (n : Counts) (answer : Until)
     → FindsUntil R c (IsAllowedStop may stop) seen n answer → FindsUntil R c stop seen n answer
 found_until R c may stop seen n (until.Stopped journal) is = (is.0, is.1.1)
 found_until R c may stop seen n (until.Found answer) is = is
@@ -217,7 +217,7 @@ all_satisfied truths told is (x ∷ xs) settled below = (
   all_satisfied truths told is xs settled.1 (λ k clause e. below (suc k) clause e),
 )
 
-pub total_found : {S : Type 0} (R : Relations S) (c : Clauses) (s : S) (course : Course) (seen : Seen S) (n : Counts) (answer : Found)
+pub total_found : {S : Type 0} (R : Relations S) (c : Clauses) (s : S) (course : Course) (seen : TheoryView S) (n : Counts) (answer : Found)
     → IsComplete R c s course seen n → IsOfCourse course answer → Finds (starting_at s R) c seen n answer
 total_found {S} R c s course seen n (found.Total truths journal) done of =
     let old = done.at.underway in
@@ -246,7 +246,7 @@ total_found R c s course seen n (found.Spent journal) done of = absurd of
 total_found R c s course seen n (found.Stuck stuck journal) done of = absurd of
 total_found R c s course seen n found.NoMemory done of = tt
 
-pub all_atoms : {S : Type 0} (R : Relations S) (c : Clauses) (s : S) (course : Course) (seen : Seen S) (n : Counts) → IsComplete R c s course seen n
+pub all_atoms : {S : Type 0} (R : Relations S) (c : Clauses) (s : S) (course : Course) (seen : TheoryView S) (n : Counts) → IsComplete R c s course seen n
     → NameAll course.trail.atoms (literals course.trail.entries)
 all_atoms R c s course seen n done atom less = done.whole atom (subst (λ (a : ℕ). atom < a) done.at.atoms less)
 

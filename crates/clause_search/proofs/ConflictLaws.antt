@@ -13,7 +13,7 @@ use Rattle.farkas_cert.specs.declared.trees.Part.{Part}
 use Rattle.clause_form.specs.declared.clauses.Clauses.{Clauses}
 use Rattle.clause_form.specs.Derivations.{ArePartsOf, EndsEmpty, Follow, Has, IsFalseOn, NamesOnce, Rows, rows_of}
 use Rattle.clause_form.specs.Journals.{AreAmong, DiffersFromEach, Entry, IsLearned, IsSettled, Last, cut, literals}
-use Rattle.clause_form.specs.Theories.{Relations, Seen}
+use Rattle.clause_form.specs.Theories.{Relations, TheoryView}
 use Rattle.learned_clause.specs.Learning.{CutsTo, IsFalseStart, IsLearnedFrom, IsUnitOn}
 use Rattle.learned_clause.specs.LightTrees.{IsLight}
 use Rattle.learned_clause.specs.Resolutions.{AreFalseAt, IsLearnedBy, NoneFrom}
@@ -79,7 +79,7 @@ taught_not_false known lits n clause taught is f = elim (get_either taught.befor
 
 -- ---- what a conflict begins with
 
-pub record IsBegun {S : Type 0} (R : Relations S) (c : Clauses) (s : S) (view : View) (lemmas : List Lemma) (moves : List Move) (seen : Seen S) (n : Counts) (start : Start) : Type 0 where
+pub record IsBegun {S : Type 0} (R : Relations S) (c : Clauses) (s : S) (view : View) (lemmas : List Lemma) (moves : List Move) (seen : TheoryView S) (n : Counts) (start : Start) : Type 0 where
   pub last : Last
   pub atoms : view.atoms ≡ length c.atoms
   pub underway : IsUnderway R c s view.entries lemmas moves last seen n
@@ -89,13 +89,13 @@ pub record IsBegun {S : Type 0} (R : Relations S) (c : Clauses) (s : S) (view : 
       → IsStartAt (starting_at s R) c (place view.entries lemmas seen.state last) lits
   pub reaches : (lits : List Lit) → AreFalseAt (known_with c.clauses lemmas) start lits → (k : ℕ) → DecidedAt view.entries k → NoneFrom view.entries lits k → ⊥
 
-moved_at : {S : Type 0} (R : Relations S) (c : Clauses) (s : S) (trail : List Entry) (lemmas : List Lemma) (last : Last) (seen : Seen S) (phase : Phase)
+moved_at : {S : Type 0} (R : Relations S) (c : Clauses) (s : S) (trail : List Entry) (lemmas : List Lemma) (last : Last) (seen : TheoryView S) (phase : Phase)
     (number : ℕ) → IsInPhase R c s trail lemmas last seen phase → IsFalseAt (known_with c.clauses lemmas) (literals trail) number → last ≡ cut → ⊥
 moved_at R c s trail lemmas last seen Told number is fails e = elim is.2 [ inl l ↦ literal_not_cut (sym l ∙ e) | inr both ↦ nothing_not_cut (sym both.0 ∙ e) ]
 moved_at R c s trail lemmas last seen Checked number is fails e = is.5 e
 moved_at R c s trail lemmas last seen Cut number is fails e = taught_not_false (known_with c.clauses lemmas) (literals trail) number fails.clause is.2 fails.is fails.false_here
 
-pub conflict_begun : {S : Type 0} (R : Relations S) (c : Clauses) (s : S) (course : Course) (seen : Seen S) (n : Counts) (start : Start)
+pub conflict_begun : {S : Type 0} (R : Relations S) (c : Clauses) (s : S) (course : Course) (seen : TheoryView S) (n : Counts) (start : Start)
     → IsConflict R c s course seen n start → IsBegun R c s course.trail course.lemmas course.journal.moves seen n start
 conflict_begun R c s course seen n (Clause number) (at, fails) = record {
   last = at.last;
@@ -124,7 +124,7 @@ conflict_begun R c s course seen n (Clash parts) at = record {
 }
 
 -- with another start that is false here
-begun_at : {S : Type 0} (R : Relations S) (c : Clauses) (s : S) (view : View) (lemmas : List Lemma) (moves : List Move) (seen : Seen S) (n : Counts)
+begun_at : {S : Type 0} (R : Relations S) (c : Clauses) (s : S) (view : View) (lemmas : List Lemma) (moves : List Move) (seen : TheoryView S) (n : Counts)
     (start : Start) (number : ℕ) → IsBegun R c s view lemmas moves seen n start → IsFalseAt (known_with c.clauses lemmas) (literals view.entries) number
     → IsBegun R c s view lemmas moves seen n (Clause number)
 begun_at R c s view lemmas moves seen n start number begun fails = record {
@@ -140,20 +140,20 @@ begun_at R c s view lemmas moves seen n start number begun fails = record {
     false_at : (lits : List Lit) → slice_get (known_with c.clauses lemmas) number ≡ Some lits → IsFalseOn (literals view.entries) lits
     false_at lits is = subst (λ (ls : List Lit). IsFalseOn (literals view.entries) ls) (same_some fails.clause lits (sym fails.is ∙ is)) fails.false_here
 
-pub begun_from : {S : Type 0} (R : Relations S) (c : Clauses) (s : S) (view : View) (lemmas : List Lemma) (moves : List Move) (seen : Seen S) (n : Counts)
+pub begun_from : {S : Type 0} (R : Relations S) (c : Clauses) (s : S) (view : View) (lemmas : List Lemma) (moves : List Move) (seen : TheoryView S) (n : Counts)
     (start from : Start) → IsBegun R c s view lemmas moves seen n start → IsStartHere (known_with c.clauses lemmas) (literals view.entries) start from
     → IsBegun R c s view lemmas moves seen n from
 begun_from R c s view lemmas moves seen n start from begun (inl same) = subst (λ (x : Start). IsBegun R c s view lemmas moves seen n x) (sym same) begun
 begun_from R c s view lemmas moves seen n start from begun (inr (number, same, fails)) =
     subst (λ (x : Start). IsBegun R c s view lemmas moves seen n x) (sym same) (begun_at R c s view lemmas moves seen n start number begun fails)
 
-pub trail_for : {S : Type 0} (R : Relations S) (c : Clauses) (s : S) (view : View) (lemmas : List Lemma) (moves : List Move) (seen : Seen S) (n : Counts)
+pub trail_for : {S : Type 0} (R : Relations S) (c : Clauses) (s : S) (view : View) (lemmas : List Lemma) (moves : List Move) (seen : TheoryView S) (n : Counts)
     (start : Start) (ls : List Lemma) → IsBegun R c s view lemmas moves seen n start → ls ≡ lemmas
     → IsTrail (length c.atoms) (known_with c.clauses ls) view.entries
 trail_for R c s view lemmas moves seen n start ls begun e =
     subst (λ (ms : List Lemma). IsTrail (length c.atoms) (known_with c.clauses ms) view.entries) (sym e) begun.underway.stands
 
-pub start_for : {S : Type 0} (R : Relations S) (c : Clauses) (s : S) (view : View) (lemmas : List Lemma) (moves : List Move) (seen : Seen S) (n : Counts)
+pub start_for : {S : Type 0} (R : Relations S) (c : Clauses) (s : S) (view : View) (lemmas : List Lemma) (moves : List Move) (seen : TheoryView S) (n : Counts)
     (start : Start) (ls : List Lemma) → IsBegun R c s view lemmas moves seen n start → ls ≡ lemmas
     → IsFalseStart (rows_of c) (known_with c.clauses ls) (literals view.entries) start
 start_for R c s view lemmas moves seen n start ls begun e =
@@ -161,7 +161,7 @@ start_for R c s view lemmas moves seen n start ls begun e =
 
 -- how many clauses are known
 pub few_known : {S : Type 0} (R : Relations S) (c : Clauses) (s : S) (trail : List Entry) (lemmas : List Lemma) (moves : List Move) (last : Last)
-    (seen : Seen S) (n : Counts) → spent n ≤ n.limit → IsUnderway R c s trail lemmas moves last seen n → length (known_with c.clauses lemmas) < 2 ^ 32
+    (seen : TheoryView S) (n : Counts) → spent n ≤ n.limit → IsUnderway R c s trail lemmas moves last seen n → length (known_with c.clauses lemmas) < 2 ^ 32
 few_known R c s trail lemmas moves last seen n within old =
     let size : length (clauses_of lemmas) ≡ length lemmas = length-map lemmas (λ (l : Lemma). l.clause) in
     let room = old.room in
@@ -169,7 +169,7 @@ few_known R c s trail lemmas moves last seen n within old =
     let few = old.formed.few_clauses in
     simp length-append (omega arith)
 
-pub few_for : {S : Type 0} (R : Relations S) (c : Clauses) (s : S) (view : View) (lemmas : List Lemma) (moves : List Move) (seen : Seen S) (n : Counts)
+pub few_for : {S : Type 0} (R : Relations S) (c : Clauses) (s : S) (view : View) (lemmas : List Lemma) (moves : List Move) (seen : TheoryView S) (n : Counts)
     (start : Start) (ls : List Lemma) → spent n ≤ n.limit → IsBegun R c s view lemmas moves seen n start → ls ≡ lemmas
     → length (known_with c.clauses ls) < 2 ^ 32
 few_for R c s view lemmas moves seen n start ls within begun e =
@@ -182,7 +182,7 @@ learned_for c view lemmas ls start learned e here =
     subst (λ (ms : List Lemma). IsLearnedHere (rows_of c) (known_with c.clauses ms) view.entries start learned) e here
 
 -- what is learned is the first unique implication point at the last decision
-lesson_of : {S : Type 0} (R : Relations S) (c : Clauses) (s : S) (view : View) (lemmas : List Lemma) (moves : List Move) (seen : Seen S) (n : Counts)
+lesson_of : {S : Type 0} (R : Relations S) (c : Clauses) (s : S) (view : View) (lemmas : List Lemma) (moves : List Move) (seen : TheoryView S) (n : Counts)
     (start : Start) (clause : List Lit) (keep : ℕ) (begun : IsBegun R c s view lemmas moves seen n start)
     → IsLearnedBy (known_with c.clauses lemmas) view.entries start clause keep → (clause ≡ [] → ⊥)
     → IsLesson (starting_at s R) c (place view.entries lemmas seen.state begun.last) clause keep
@@ -207,7 +207,7 @@ lighter : (rows : Rows) (n : ℕ) (tree : Tree) → n ≤ 4096 → IsLight rows 
 lighter rows n tree few light = record { shallow = (let deep = light.shallow in omega arith); leaves = light.leaves }
 
 few_entries : {S : Type 0} (R : Relations S) (c : Clauses) (s : S) (trail : List Entry) (lemmas : List Lemma) (moves : List Move) (last : Last)
-    (seen : Seen S) (n : Counts) → IsUnderway R c s trail lemmas moves last seen n → length trail ≤ 4096
+    (seen : TheoryView S) (n : Counts) → IsUnderway R c s trail lemmas moves last seen n → length trail ≤ 4096
 few_entries R c s trail lemmas moves last seen n old =
     let short : length (literals trail) ≤ length c.atoms = once_length (length c.atoms) (literals trail) old.once in
     let same : length (literals trail) ≡ length trail = length-map trail (λ (e : Entry). e.lit) in
@@ -215,14 +215,14 @@ few_entries R c s trail lemmas moves last seen n old =
     omega arith
 
 all_light : {S : Type 0} (R : Relations S) (c : Clauses) (s : S) (trail : List Entry) (lemmas : List Lemma) (moves : List Move) (last : Last)
-    (seen : Seen S) (n : Counts) (lemma : Lemma) → IsUnderway R c s trail lemmas moves last seen n → IsLight (rows_of c) (length trail) (tree_of lemma.proof)
+    (seen : TheoryView S) (n : Counts) (lemma : Lemma) → IsUnderway R c s trail lemmas moves last seen n → IsLight (rows_of c) (length trail) (tree_of lemma.proof)
     → AreLight (rows_of c) (lemmas ++ lemma ∷ [])
 all_light R c s trail lemmas moves last seen n lemma old light =
     light_more (rows_of c) lemmas lemma old.light (lighter (rows_of c) (length trail) (tree_of lemma.proof) (few_entries R c s trail lemmas moves last seen n old) light)
 
 -- ---- the empty clause
 
-pub refuted : {S : Type 0} (R : Relations S) (c : Clauses) (s : S) (view : View) (lemmas : List Lemma) (moves : List Move) (seen : Seen S) (n : Counts)
+pub refuted : {S : Type 0} (R : Relations S) (c : Clauses) (s : S) (view : View) (lemmas : List Lemma) (moves : List Move) (seen : TheoryView S) (n : Counts)
     (start : Start) (lemma : Lemma) (keep : ℕ) (new : Course) → spent n ≤ n.limit → IsBegun R c s view lemmas moves seen n start
     → IsLearnedFrom (rows_of c) (known_with c.clauses lemmas) view.entries lemma.clause (tree_of lemma.proof) keep → lemma.clause ≡ []
     → new.lemmas ≡ lemmas ++ lemma ∷ [] → IsRefuted R c s new
@@ -252,7 +252,7 @@ differs lits clause (lemma ∷ lemmas) settled single = (
   differs lits clause lemmas settled.1 single,
 )
 
-module _ {S : Type 0} (R : Relations S) (c : Clauses) (s : S) (view : View) (lemmas : List Lemma) (moves : List Move) (seen : Seen S) (n : Counts) (lemma : Lemma) (keep : ℕ) (jump : IsCutting R c s view lemmas moves seen n lemma keep) where
+module _ {S : Type 0} (R : Relations S) (c : Clauses) (s : S) (view : View) (lemmas : List Lemma) (moves : List Move) (seen : TheoryView S) (n : Counts) (lemma : Lemma) (keep : ℕ) (jump : IsCutting R c s view lemmas moves seen n lemma keep) where
   may_learn : IsLearned c (place view.entries lemmas seen.state jump.last) lemma.clause keep
   may_learn = record {
     false_here = jump.learned.false_here;
@@ -274,7 +274,7 @@ module _ {S : Type 0} (R : Relations S) (c : Clauses) (s : S) (view : View) (lem
   kept : keep ≤ length view.entries
   kept = let within = jump.cuts.within in omega arith
 
-  pub cut_on : (new : Seen S) → new.told ≡ take keep seen.told → R.after_undo seen.state keep new.state → new.rows ≡ seen.rows → new.rest ≡ seen.rest
+  pub cut_on : (new : TheoryView S) → new.told ≡ take keep seen.told → R.after_undo seen.state keep new.state → new.rows ≡ seen.rows → new.rest ≡ seen.rest
       → IsUnderway R c s (take keep view.entries) (lemmas ++ lemma ∷ []) (moves ++ Conflict lemma.clause keep ∷ []) cut new (conflict_noted n)
   cut_on new told state rows rest =
       let old = jump.underway in record {
@@ -301,13 +301,13 @@ module _ {S : Type 0} (R : Relations S) (c : Clauses) (s : S) (view : View) (lem
 paid_after : (keep told : ℕ) (owed : Bool) → keep < told → (if nat_lt keep told then false else owed) ≡ false
 paid_after keep told owed less = ap (λ (b : Bool). if b then false else owed) (lt-ltb keep told less)
 
-in_cut : {S : Type 0} (R : Relations S) (c : Clauses) (s : S) (trail : List Entry) (lemmas : List Lemma) (seen : Seen S) (phase : Phase) → phase ≡ Cut
+in_cut : {S : Type 0} (R : Relations S) (c : Clauses) (s : S) (trail : List Entry) (lemmas : List Lemma) (seen : TheoryView S) (phase : Phase) → phase ≡ Cut
     → seen.owes ≡ false → IsTaught (known_with c.clauses lemmas) (literals trail) → IsInPhase R c s trail lemmas cut seen phase
 in_cut R c s trail lemmas seen Told e owes taught = absurd (cc)
 in_cut R c s trail lemmas seen Checked e owes taught = absurd (cc)
 in_cut R c s trail lemmas seen Cut e owes taught = (owes, refl, taught)
 
-pub cut_stage : {S : Type 0} (R : Relations S) (c : Clauses) (s : S) (old new : Course) (seen seen' : Seen S) (n n' : Counts) (lemma : Lemma) (keep : ℕ)
+pub cut_stage : {S : Type 0} (R : Relations S) (c : Clauses) (s : S) (old new : Course) (seen seen' : TheoryView S) (n n' : Counts) (lemma : Lemma) (keep : ℕ)
     → IsCutting R c s old.trail old.lemmas old.journal.moves seen n lemma keep → Cutting old lemma keep new → seen'.told ≡ take keep seen.told
     → R.after_undo seen.state keep seen'.state → seen'.rows ≡ seen.rows → seen'.rest ≡ seen.rest
     → seen'.owes ≡ (if nat_lt keep (length seen.told) then false else seen.owes) → n' ≡ conflict_noted n
@@ -340,7 +340,7 @@ cut_less old new n n' lemma keep work within cutting counted most =
     less_cut_at n.limit n'.limit (spent n) (spent n') (length old.trail.entries) (length new.trail.entries) (weight new.phase) keep work (ap (λ (m : Counts). m.limit) counted) (ap (λ (m : Counts). spent m) counted) (ap (λ (v : View). length v.entries) cutting.trail ∙ length_take old.trail.entries keep (omega arith)) within (ap weight cutting.phase) most
 
 -- what a cut needs before it
-pub may_jump : {S : Type 0} (R : Relations S) (c : Clauses) (s : S) (view : View) (lemmas : List Lemma) (moves : List Move) (seen : Seen S) (n : Counts)
+pub may_jump : {S : Type 0} (R : Relations S) (c : Clauses) (s : S) (view : View) (lemmas : List Lemma) (moves : List Move) (seen : TheoryView S) (n : Counts)
     (lemma : Lemma) (keep : ℕ) → spent n ≤ n.limit → IsCutting R c s view lemmas moves seen n lemma keep → MayJump (known_with c.clauses lemmas) seen n keep
 may_jump R c s view lemmas moves seen n lemma keep within jump =
     let old = jump.underway in
@@ -358,7 +358,7 @@ pub cuts_of : (c : Clauses) (known : List (List Lit)) (trail : List Entry) (clau
     → IsLearnedFrom (rows_of c) known trail clause tree keep → (clause ≡ [] → ⊥) → CutsTo trail clause keep
 cuts_of c known trail clause tree keep learned some = elim learned.cut [ inl e ↦ absurd (some e) | inr cuts ↦ cuts ]
 
-pub jump_of : {S : Type 0} (R : Relations S) (c : Clauses) (s : S) (view : View) (lemmas : List Lemma) (moves : List Move) (seen : Seen S) (n : Counts)
+pub jump_of : {S : Type 0} (R : Relations S) (c : Clauses) (s : S) (view : View) (lemmas : List Lemma) (moves : List Move) (seen : TheoryView S) (n : Counts)
     (start : Start) (lemma : Lemma) (keep : ℕ) → IsBegun R c s view lemmas moves seen n start
     → IsLearnedFrom (rows_of c) (known_with c.clauses lemmas) view.entries lemma.clause (tree_of lemma.proof) keep
     → IsLearnedBy (known_with c.clauses lemmas) view.entries start lemma.clause keep → (lemma.clause ≡ [] → ⊥)
@@ -373,7 +373,7 @@ jump_of R c s view lemmas moves seen n start lemma keep begun learned exact some
   lesson = lesson_of R c s view lemmas moves seen n start lemma.clause keep begun exact some;
 }
 
-pub steps_refuted : {S : Type 0} (R : Relations S) (c : Clauses) (s : S) (work : ℕ) (old : List Lemma) (lemma : Lemma) (new : Course) (seen : Seen S)
+pub steps_refuted : {S : Type 0} (R : Relations S) (c : Clauses) (s : S) (work : ℕ) (old : List Lemma) (lemma : Lemma) (new : Course) (seen : TheoryView S)
     (n : Counts) (answer : Step) → Refutes old lemma new.lemmas answer → (new.lemmas ≡ old ++ lemma ∷ [] → IsRefuted R c s new)
     → Steps R c s work new seen n answer
 steps_refuted R c s work old lemma new seen n step.GoesOn r closes = absurd r

@@ -13,8 +13,8 @@ use Rattle.clause_form.specs.declared.clauses.Clauses.{Clauses}
 use Rattle.clause_form.specs.declared.theory.Heard.{Heard}
 use Rattle.clause_form.specs.declared.theory.Heard.TheVariants as heard
 use Rattle.clause_form.specs.Derivations.{IsContradiction, NamesOnce, Rows, SumsFit, rows_of}
-use Rattle.clause_form.specs.Journals.{Entry, IsFree, IsSettled, Last, Leads, MayMove, Place, SticksIn, cut, is_charged, known_at, literal, literals, nothing}
-use Rattle.clause_form.specs.Theories.{HasClash, HasSolution, HearsCheckAtWork, HearsLiteralAtWork, MadePivots, Relations, Seen, TookLiteral}
+use Rattle.clause_form.specs.Journals.{Entry, IsFree, IsSettled, Last, Leads, MayMove, Reached, SticksIn, cut, is_charged, known_at, literal, literals, nothing}
+use Rattle.clause_form.specs.Theories.{HasClash, HasSolution, HearsCheckAtWork, HearsLiteralAtWork, MadePivots, Relations, TheoryView, TookLiteral}
 use Rattle.learned_clause.specs.Trails.{IsFounded, known_with}
 use Rattle.clause_search.specs.declared.course.Course.{Course}
 use Rattle.clause_search.specs.declared.course.Phase.{Phase}
@@ -34,7 +34,7 @@ use Rattle.clause_search.proofs.JournalLaws.{IsPivoted, charged_spent, conflicts
 no_entry : (k : ℕ) (e : Entry) → slice_get [] k ≡ Some e → ⊥
 no_entry k e is = cc
 
-pub begun : {S : Type 0} (R : Relations S) (c : Clauses) (seen : Seen S) (n : Counts) (course : Course)
+pub begun : {S : Type 0} (R : Relations S) (c : Clauses) (seen : TheoryView S) (n : Counts) (course : Course)
     → ((s : S) → R.opening s → (R.contradicts s → ⊥) × (R.violated s → ⊥)) → IsStart R c seen n → IsOpened c course
     → IsStage R c seen.state course.trail course.lemmas course.journal.moves course.phase seen n
 begun {S} R c seen n course calm start opened =
@@ -74,17 +74,17 @@ begun {S} R c seen n course calm start opened =
 
 -- ---- a literal that may be assumed
 
-free_of : {S : Type 0} (R : Relations S) (c : Clauses) (p : Place S) (l : Lit) (by : Option ℕ) → MayMove R c p (move_of l by)
+free_of : {S : Type 0} (R : Relations S) (c : Clauses) (p : Reached S) (l : Lit) (by : Option ℕ) → MayMove R c p (move_of l by)
     → IsFree (length c.atoms) (literals p.trail) l
 free_of R c p l None may = may.0
 free_of R c p l (Some n) may = may.0.0
 
-founded_of : {S : Type 0} (R : Relations S) (c : Clauses) (p : Place S) (l : Lit) (by : Option ℕ) → MayMove R c p (move_of l by)
+founded_of : {S : Type 0} (R : Relations S) (c : Clauses) (p : Reached S) (l : Lit) (by : Option ℕ) → MayMove R c p (move_of l by)
     → IsFounded (c.clauses ++ p.lemmas) (literals p.trail) l by
 founded_of R c p l None may = tt
 founded_of R c p l (Some n) may = may.0.1
 
-settled_of : {S : Type 0} (R : Relations S) (c : Clauses) (p : Place S) (l : Lit) (by : Option ℕ) → MayMove R c p (move_of l by) → by ≡ None
+settled_of : {S : Type 0} (R : Relations S) (c : Clauses) (p : Reached S) (l : Lit) (by : Option ℕ) → MayMove R c p (move_of l by) → by ≡ None
     → IsSettled (known_at c p) (literals p.trail)
 settled_of R c p l None may e = may.1.2
 settled_of R c p l (Some n) may e = absurd (cc)
@@ -102,7 +102,7 @@ charged_move : {S : Type 0} (R : Relations S) (c : Clauses) (l : Lit) (by : Opti
 charged_move R c l None = refl
 charged_move R c l (Some n) = refl
 
-pub may_be_told : {S : Type 0} (R : Relations S) (c : Clauses) (s : S) (view : View) (lemmas : List Lemma) (moves : List Move) (seen : Seen S)
+pub may_be_told : {S : Type 0} (R : Relations S) (c : Clauses) (s : S) (view : View) (lemmas : List Lemma) (moves : List Move) (seen : TheoryView S)
     (n : Counts) (l : Lit) (by : Option ℕ) → spent n ≤ n.limit → IsLegal R c s view lemmas moves seen n l by → MayBeTold view seen l
 may_be_told R c s view lemmas moves seen n l by within legal =
     let free = free_of (starting_at s R) c (place view.entries lemmas seen.state legal.last) l by legal.may.may in record {
@@ -117,9 +117,9 @@ may_be_told R c s view lemmas moves seen n l by within legal =
 
 -- ---- after a literal was told
 
-told_on : {S : Type 0} (R : Relations S) (c : Clauses) (s : S) (view : View) (lemmas : List Lemma) (moves : List Move) (seen new : Seen S) (n : Counts) (l : Lit) (by : Option ℕ) → IsLegal R c s view lemmas moves seen n l by → spent n < n.limit → TookLiteral R seen l new → IsUnderway R c s (view.entries ++ record { lit = l; by = by } ∷ []) lemmas (moves ++ move_of l by ∷ []) literal new (charged (charge_of by) n)
+told_on : {S : Type 0} (R : Relations S) (c : Clauses) (s : S) (view : View) (lemmas : List Lemma) (moves : List Move) (seen new : TheoryView S) (n : Counts) (l : Lit) (by : Option ℕ) → IsLegal R c s view lemmas moves seen n l by → spent n < n.limit → TookLiteral R seen l new → IsUnderway R c s (view.entries ++ record { lit = l; by = by } ∷ []) lemmas (moves ++ move_of l by ∷ []) literal new (charged (charge_of by) n)
 told_on {S} R c s view lemmas moves seen new n l by legal less took =
-    let here : Place S = place view.entries lemmas seen.state legal.last in
+    let here : Reached S = place view.entries lemmas seen.state legal.last in
     let e : Entry = record { lit = l; by = by } in
     let old = legal.underway in
     let free = free_of (starting_at s R) c here l by legal.may.may in
@@ -152,7 +152,7 @@ same_contradiction : (rows rows' : Rows) (told lits : List Lit) (parts : List Pa
     → IsContradiction rows' lits parts
 same_contradiction rows rows' told lits parts e f is = subst (λ (r : Rows). IsContradiction r lits parts) e (subst (λ (ls : List Lit). IsContradiction rows ls parts) f is)
 
-clash_of : {S : Type 0} (R : Relations S) (c : Clauses) (s : S) (view : View) (lemmas : List Lemma) (moves : List Move) (last : Last) (seen : Seen S)
+clash_of : {S : Type 0} (R : Relations S) (c : Clauses) (s : S) (view : View) (lemmas : List Lemma) (moves : List Move) (last : Last) (seen : TheoryView S)
     (n : Counts) (parts : List Part) → view.atoms ≡ length c.atoms → IsUnderway R c s view.entries lemmas moves last seen n → (last ≡ cut → ⊥)
     → HasClash R seen parts → IsClash R c s view lemmas moves seen n parts
 clash_of R c s view lemmas moves last seen n parts atoms old moved clash = record {
@@ -170,11 +170,11 @@ abbrev longer_by : View → Lit → Option ℕ → View
 longer_by view l by = record { atoms = view.atoms; entries = view.entries ++ record { lit = l; by = by } ∷ [] }
 
 -- the same course by its parts
-same_asks : {S : Type 0} (R : Relations S) (c : Clauses) (s : S) (course : Course) (seen : Seen S) (n n' : Counts) (answer : Heard) → n ≡ n'
+same_asks : {S : Type 0} (R : Relations S) (c : Clauses) (s : S) (course : Course) (seen : TheoryView S) (n n' : Counts) (answer : Heard) → n ≡ n'
     → Asks R c s course seen n' answer → Asks R c s course seen n answer
 same_asks R c s course seen n n' answer e asks = subst (λ (m : Counts). Asks R c s course seen m answer) (sym e) asks
 
-told_stage : {S : Type 0} (R : Relations S) (c : Clauses) (s : S) (old new : Course) (seen seen' : Seen S) (n : Counts) (l : Lit) (by : Option ℕ)
+told_stage : {S : Type 0} (R : Relations S) (c : Clauses) (s : S) (old new : Course) (seen seen' : TheoryView S) (n : Counts) (l : Lit) (by : Option ℕ)
     → IsLegal R c s old.trail old.lemmas old.journal.moves seen n l by → Putting old l by new → spent n < n.limit → TookLiteral R seen l seen'
     → (new.trail.atoms ≡ length c.atoms) × IsUnderway R c s new.trail.entries new.lemmas new.journal.moves literal seen' (charged (charge_of by) n)
 told_stage R c s old new seen seen' n l by legal put less took = (
@@ -185,13 +185,13 @@ told_stage R c s old new seen seen' n l by legal put less took = (
       told_on R c s old.trail old.lemmas old.journal.moves seen seen' n l by legal less took))),
 )
 
-in_told : {S : Type 0} (R : Relations S) (c : Clauses) (s : S) (trail : List Entry) (lemmas : List Lemma) (seen : Seen S) (phase : Phase) → phase ≡ Told
+in_told : {S : Type 0} (R : Relations S) (c : Clauses) (s : S) (trail : List Entry) (lemmas : List Lemma) (seen : TheoryView S) (phase : Phase) → phase ≡ Told
     → seen.owes ≡ false → (R.contradicts seen.state → ⊥) → IsInPhase R c s trail lemmas literal seen phase
 in_told R c s trail lemmas seen Told e owes calm = (owes, calm, inl refl)
 in_told R c s trail lemmas seen Checked e owes calm = absurd (cc)
 in_told R c s trail lemmas seen Cut e owes calm = absurd (cc)
 
-stuck_told : {S : Type 0} (R : Relations S) (c : Clauses) (s : S) (old new : Course) (seen : Seen S) (n : Counts) (l : Lit) (by : Option ℕ) (k : Stuck)
+stuck_told : {S : Type 0} (R : Relations S) (c : Clauses) (s : S) (old new : Course) (seen : TheoryView S) (n : Counts) (l : Lit) (by : Option ℕ) (k : Stuck)
     → IsLegal R c s old.trail old.lemmas old.journal.moves seen n l by → Putting old l by new
     → (R.stuck_in_literal seen.state l k) ⊎ ((t : S) × R.after_literal seen.state l t × R.stuck_at t k)
     → IsStuck (starting_at s R) c (charged (charge_of by) n) k new.journal.moves
@@ -202,7 +202,7 @@ stuck_told {S} R c s old new seen n l by k legal put stuck =
       tally = tally_literal old.journal.moves n l by legal.underway.tally;
     })
   where
-    here : Place S
+    here : Reached S
     here = place old.trail.entries old.lemmas seen.state legal.last
 
     sticks : (R.stuck_in_literal seen.state l k) ⊎ ((t : S) × R.after_literal seen.state l t × R.stuck_at t k)
@@ -214,7 +214,7 @@ stuck_told {S} R c s old new seen n l by k legal put stuck =
       later.2,
     )
 
-pub asks_told : {S : Type 0} (R : Relations S) (c : Clauses) (s : S) (old new : Course) (seen seen' : Seen S) (n n' : Counts) (l : Lit) (by : Option ℕ)
+pub asks_told : {S : Type 0} (R : Relations S) (c : Clauses) (s : S) (old new : Course) (seen seen' : TheoryView S) (n n' : Counts) (l : Lit) (by : Option ℕ)
     (answer : Heard) → IsLegal R c s old.trail old.lemmas old.journal.moves seen n l by → Putting old l by new → n' ≡ charged (charge_of by) n
     → nat_lt (spent n) n.limit ≡ true → HearsLiteralAtWork R seen l answer seen' → Asks R c s new seen' n' answer
 asks_told {S} R c s old new seen seen' n n' l by answer legal put counted room hears =
@@ -235,7 +235,7 @@ asks_told {S} R c s old new seen seen' n n' l by answer legal put counted room h
     by_answer heard.NoMemory h = tt
 
 -- the budget refuses the literal
-pub asks_refused : {S : Type 0} (R : Relations S) (c : Clauses) (s : S) (view : View) (lemmas : List Lemma) (moves : List Move) (seen : Seen S)
+pub asks_refused : {S : Type 0} (R : Relations S) (c : Clauses) (s : S) (view : View) (lemmas : List Lemma) (moves : List Move) (seen : TheoryView S)
     (n n' : Counts) (l : Lit) (by : Option ℕ) → IsLegal R c s view lemmas moves seen n l by → n' ≡ n → spent n ≡ n.limit
     → IsSpent (starting_at s R) c n' moves
 asks_refused R c s view lemmas moves seen n n' l by legal same all =
@@ -251,7 +251,7 @@ asks_refused R c s view lemmas moves seen n n' l by legal same all =
 
 -- ---- after a check
 
-pivoted : {S : Type 0} (R : Relations S) (c : Clauses) (s : S) (view : View) (lemmas : List Lemma) (moves : List Move) (seen : Seen S) (n : Counts)
+pivoted : {S : Type 0} (R : Relations S) (c : Clauses) (s : S) (view : View) (lemmas : List Lemma) (moves : List Move) (seen : TheoryView S) (n : Counts)
     → ((t : S) (b o : ℕ) → R.allowed_pivot t b o → R.violated t) → IsStage R c s view lemmas moves Told seen n
     → IsPivoted R c s view.entries lemmas moves seen.state
 pivoted R c s view lemmas moves seen n mend stage = record {
@@ -262,7 +262,7 @@ pivoted R c s view lemmas moves seen n mend stage = record {
   turn = λ b o allowed. elim stage.in_phase.2 [ inl e ↦ inl e | inr both ↦ absurd (both.1 (mend seen.state b o allowed)) ];
 }
 
-made_on : {S : Type 0} (R : Relations S) (c : Clauses) (s : S) (view : View) (lemmas : List Lemma) (moves : List Move) (seen new : Seen S) (n : Counts)
+made_on : {S : Type 0} (R : Relations S) (c : Clauses) (s : S) (view : View) (lemmas : List Lemma) (moves : List Move) (seen new : TheoryView S) (n : Counts)
     (ps : List (ℕ × ℕ)) → ((t : S) (b o : ℕ) → R.allowed_pivot t b o → R.violated t) → IsStage R c s view lemmas moves Told seen n → MadePivots R seen ps new
     → (last : Last) × IsUnderway R c s view.entries lemmas (moves ++ map pivot_of ps) last new (with_pivots n (length ps)) × (last ≡ cut → ⊥)
 made_on R c s view lemmas moves seen new n ps mend stage made =
@@ -289,14 +289,14 @@ made_on R c s view lemmas moves seen new n ps mend stage made =
       there.moved,
     )
 
-in_checked : {S : Type 0} (R : Relations S) (c : Clauses) (s : S) (trail : List Entry) (lemmas : List Lemma) (last : Last) (seen : Seen S) (phase : Phase)
+in_checked : {S : Type 0} (R : Relations S) (c : Clauses) (s : S) (trail : List Entry) (lemmas : List Lemma) (last : Last) (seen : TheoryView S) (phase : Phase)
     → phase ≡ Checked → seen.owes ≡ false → (R.contradicts seen.state → ⊥) → (R.violated seen.state → ⊥) → seen.fine ≡ true → HasSolution seen.rows seen.told
     → (last ≡ cut → ⊥) → IsInPhase R c s trail lemmas last seen phase
 in_checked R c s trail lemmas last seen Told e owes calm still fine solved moved = absurd (cc)
 in_checked R c s trail lemmas last seen Checked e owes calm still fine solved moved = (owes, calm, still, fine, solved, moved)
 in_checked R c s trail lemmas last seen Cut e owes calm still fine solved moved = absurd (cc)
 
-pub asks_checked : {S : Type 0} (R : Relations S) (c : Clauses) (s : S) (old new : Course) (seen seen' : Seen S) (n n' : Counts) (ps : List (ℕ × ℕ))
+pub asks_checked : {S : Type 0} (R : Relations S) (c : Clauses) (s : S) (old new : Course) (seen seen' : TheoryView S) (n n' : Counts) (ps : List (ℕ × ℕ))
     (answer : Heard) → ((t : S) (b o : ℕ) → R.allowed_pivot t b o → R.violated t) → old.phase ≡ Told
     → IsStage R c s old.trail old.lemmas old.journal.moves old.phase seen n → new.trail ≡ old.trail → new.lemmas ≡ old.lemmas
     → new.journal.moves ≡ old.journal.moves ++ map pivot_of ps → (answer ≡ heard.Fine → new.phase ≡ Checked) → n' ≡ with_pivots n (length ps)
@@ -417,7 +417,7 @@ less_checked old new n n' k answer was trail checked counted = by_answer answer 
 all_spent : (a b : ℕ) → nat_lt a b ≡ false → a ≤ b → a ≡ b
 all_spent a b none within = let more : b ≤ a = ltb-false a b none in omega arith
 
-pub refused_at : {S : Type 0} (R : Relations S) (c : Clauses) (s : S) (view : View) (lemmas : List Lemma) (moves : List Move) (seen : Seen S)
+pub refused_at : {S : Type 0} (R : Relations S) (c : Clauses) (s : S) (view : View) (lemmas : List Lemma) (moves : List Move) (seen : TheoryView S)
     (n n' : Counts) (l : Lit) (by : Option ℕ) (what : Charge) (went : Bool) → went ≡ nat_lt (spent n) n.limit → n' ≡ (if went then charged what n else n)
     → went ≡ false → spent n ≤ n.limit → IsLegal R c s view lemmas moves seen n l by → IsSpent (starting_at s R) c n' moves
 refused_at R c s view lemmas moves seen n n' l by what went is counted refused within legal =
@@ -428,7 +428,7 @@ pub charged_at : (n n' : Counts) (what what' : Charge) (went : Bool) → went �
 charged_at n n' what what' went is counted true_is same =
     (counted ∙ ap (λ (b : Bool). if b then charged what n else n) true_is ∙ ap (λ (w : Charge). charged w n) same, sym is ∙ true_is)
 
-pub told_rows : {S : Type 0} (R : Relations S) (seen seen' : Seen S) (l : Lit) (answer : Heard) → HearsLiteralAtWork R seen l answer seen'
+pub told_rows : {S : Type 0} (R : Relations S) (seen seen' : TheoryView S) (l : Lit) (answer : Heard) → HearsLiteralAtWork R seen l answer seen'
     → seen'.rows ≡ seen.rows
 told_rows R seen seen' l heard.Fine h = h.0.rows
 told_rows R seen seen' l (heard.Clash parts) h = h.0.rows
@@ -436,7 +436,7 @@ told_rows R seen seen' l heard.Spent h = absurd h
 told_rows R seen seen' l (heard.Stuck k) h = h.1
 told_rows R seen seen' l heard.NoMemory h = h.1
 
-pub checked_rows : {S : Type 0} (R : Relations S) (seen seen' : Seen S) (ps : List (ℕ × ℕ)) (answer : Heard) (n : Counts)
+pub checked_rows : {S : Type 0} (R : Relations S) (seen seen' : TheoryView S) (ps : List (ℕ × ℕ)) (answer : Heard) (n : Counts)
     → HearsCheckAtWork R seen ps answer seen' n → seen'.rows ≡ seen.rows
 checked_rows R seen seen' ps heard.Fine n h = h.0.rows
 checked_rows R seen seen' ps (heard.Clash parts) n h = h.0.rows

@@ -11,7 +11,7 @@ use Rattle.clause_form.specs.declared.clauses.Atom.TheVariants.{Named, Row}
 use Rattle.clause_form.specs.declared.clauses.Clauses.{Clauses}
 use Rattle.clause_form.specs.declared.theory.Heard.TheVariants as heard
 use Rattle.clause_form.specs.Models.{RowHolds}
-use Rattle.clause_form.specs.Theories.{AreMet, HearsCheck, HearsLiteral, Seen, works, without_memory}
+use Rattle.clause_form.specs.Theories.{AreMet, HearsCheck, HearsLiteral, TheoryView, works, without_memory}
 use Rattle.clause_form.specs.WellFormed.{Below}
 use Rattle.clause_search.specs.Answers.{IsStart}
 use Rattle.clause_search.specs.Examples.{AreBelow, IsNamed, named_rows, names, seen_names}
@@ -123,10 +123,10 @@ pub are_below_all : (n : ℕ) (cs : List (List Lit)) → All (λ c. All (λ l. l
 are_below_all n [] all = tt
 are_below_all n (c ∷ cs) all = (below_all n c (All-head (λ ls. All (λ l. l.atom < n) ls) c cs all), are_below_all n cs (All-tail (λ ls. All (λ l. l.atom < n) ls) c cs all))
 
-pub named_start : (n limit : ℕ) (c : Clauses) (seen : Seen (Unit {0})) (k : Counts) → IsNamed n c → seen ≡ seen_names n [] false true → k ≡ opening limit
+pub named_start : (n limit : ℕ) (c : Clauses) (seen : TheoryView (Unit {0})) (k : Counts) → IsNamed n c → seen ≡ seen_names n [] false true → k ≡ opening limit
     → limit ≤ 2 ^ 31 → IsStart names c seen k
 named_start n limit c seen k named e f few =
-    subst (λ (s : Seen (Unit {0})). IsStart names c s k) (sym e) (subst (λ (m : Counts). IsStart names c (seen_names n [] false true) m) (sym f) (record {
+    subst (λ (s : TheoryView (Unit {0})). IsStart names c s k) (sym e) (subst (λ (m : Counts). IsStart names c (seen_names n [] false true) m) (sym f) (record {
       formed = named.formed;
       rows = sym named.rows;
       untold = refl;

@@ -11,7 +11,7 @@ use Rattle.farkas_cert.specs.declared.journals.Move.TheVariants.{Decide, Propaga
 use Rattle.farkas_cert.specs.declared.literals.Lit.{Lit}
 use Rattle.cert_text.specs.Journals.{how_many, is_decide, is_propagate, is_pivot, is_conflict}
 use Rattle.clause_form.specs.declared.clauses.Clauses.{Clauses}
-use Rattle.clause_form.specs.Journals.{Entry, IsOpen, Last, Leads, Moves, Place, Reaches, Sticks, cut, exchange, is_charged, literal, nothing, opened}
+use Rattle.clause_form.specs.Journals.{Entry, IsOpen, Last, Leads, Moves, Reached, Reaches, Sticks, cut, exchange, is_charged, literal, nothing, opened}
 use Rattle.clause_form.specs.Theories.{PivotsLead, Relations, StuckAfterPivots}
 use Rattle.clause_search.specs.Answers.{IsTally, starting_at}
 use Rattle.clause_search.specs.Courses.{move_of, place}
@@ -20,23 +20,23 @@ use Rattle.clause_search.specs.Opened.{charge_of}
 
 -- ---- one move more
 
-learns_more : {S : Type 0} (R : Relations S) (c : Clauses) (ms : List Move) (m : Move) (p q r : Place S) → Learns R c p ms q → MayLearn R c q m
+learns_more : {S : Type 0} (R : Relations S) (c : Clauses) (ms : List Move) (m : Move) (p q r : Reached S) → Learns R c p ms q → MayLearn R c q m
     → Leads R c q m r → Learns R c p (ms ++ m ∷ []) r
 learns_more {S} R c [] m p q r e may leads =
-    (subst (λ (x : Place S). MayLearn R c x m) (sym e) may, (r, subst (λ (x : Place S). Leads R c x m r) (sym e) leads, refl))
+    (subst (λ (x : Reached S). MayLearn R c x m) (sym e) may, (r, subst (λ (x : Reached S). Leads R c x m r) (sym e) leads, refl))
 learns_more R c (n ∷ ms) m p q r (first, (t, lead, rest)) may leads = (first, (t, lead, learns_more R c ms m t q r rest may leads))
 
-pub reaches_more : {S : Type 0} (R : Relations S) (c : Clauses) (ms : List Move) (m : Move) (q r : Place S) → ReachesLearning R c ms q → MayLearn R c q m
+pub reaches_more : {S : Type 0} (R : Relations S) (c : Clauses) (ms : List Move) (m : Move) (q r : Reached S) → ReachesLearning R c ms q → MayLearn R c q m
     → Leads R c q m r → ReachesLearning R c (ms ++ m ∷ []) r
 reaches_more R c ms m q r reached may leads = (reached.0, reached.1, learns_more R c ms m (opened reached.0) q r reached.2 may leads)
 
 -- ---- what such journals are besides
 
-moves_of : {S : Type 0} (R : Relations S) (c : Clauses) (ms : List Move) (p q : Place S) → Learns R c p ms q → Moves R c p ms q
+moves_of : {S : Type 0} (R : Relations S) (c : Clauses) (ms : List Move) (p q : Reached S) → Learns R c p ms q → Moves R c p ms q
 moves_of R c [] p q e = e
 moves_of R c (m ∷ ms) p q (may, (r, leads, rest)) = (may.may, (r, leads, moves_of R c ms r q rest))
 
-pub reaches_of : {S : Type 0} (R : Relations S) (c : Clauses) (ms : List Move) (q : Place S) → ReachesLearning R c ms q → Reaches R c ms q
+pub reaches_of : {S : Type 0} (R : Relations S) (c : Clauses) (ms : List Move) (q : Reached S) → ReachesLearning R c ms q → Reaches R c ms q
 reaches_of R c ms q (s, opens, learns) = (s, opens, moves_of R c ms (opened s) q learns)
 
 pub open_of : {S : Type 0} (R : Relations S) (c : Clauses) (ms : List Move) → IsOpenLearning R c ms → IsOpen R c ms

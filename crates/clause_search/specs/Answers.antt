@@ -10,9 +10,9 @@ use Rattle.farkas_cert.specs.declared.literals.Lit.{Lit}
 use Rattle.cert_text.specs.Journals.{how_many, is_decide, is_propagate, is_pivot, is_conflict}
 use Rattle.clause_form.specs.declared.clauses.Clauses.{Clauses}
 use Rattle.clause_form.specs.Derivations.{Has, NamesOnce, Proves, Rows, rows_of}
-use Rattle.clause_form.specs.Journals.{IsOpen, Place, Reaches, Sticks, is_charged, literals}
+use Rattle.clause_form.specs.Journals.{IsOpen, Reached, Reaches, Sticks, is_charged, literals}
 use Rattle.clause_form.specs.Models.{Satisfies}
-use Rattle.clause_form.specs.Theories.{HasSolution, Relations, Seen, works}
+use Rattle.clause_form.specs.Theories.{HasSolution, Relations, TheoryView, works}
 use Rattle.clause_form.specs.WellFormed.{IsWellFormed}
 use Rattle.learned_clause.specs.LightTrees.{IsLight}
 use Rattle.clause_search.specs.declared.found.Found.{Found}
@@ -26,7 +26,7 @@ abbrev pub starting_at : {S : Type 0} → S → Relations S → Relations S
 starting_at s R = record R { opening = λ t. t ≡ s }
 
 -- the theory stands for these clauses at an opening, nothing is told and nothing is spent
-pub record IsStart {S : Type 0} (R : Relations S) (c : Clauses) (seen : Seen S) (n : Counts) : Type 0 where
+pub record IsStart {S : Type 0} (R : Relations S) (c : Clauses) (seen : TheoryView S) (n : Counts) : Type 0 where
   pub formed : IsWellFormed c
   pub rows : seen.rows ≡ rows_of c
   pub untold : seen.told ≡ []
@@ -58,7 +58,7 @@ AreLight rows [] = Unit {0}
 AreLight rows (lemma ∷ lemmas) = IsLight rows 4096 (tree_of lemma.proof) × AreLight rows lemmas
 
 -- the theory's last answer was Fine
-pub record IsCalm {S : Type 0} (R : Relations S) (seen : Seen S) : Type 0 where
+pub record IsCalm {S : Type 0} (R : Relations S) (seen : TheoryView S) : Type 0 where
   pub fine : seen.fine ≡ true
   pub paid : seen.owes ≡ false
   pub at_work : seen.rest ≡ works
@@ -67,15 +67,15 @@ pub record IsCalm {S : Type 0} (R : Relations S) (seen : Seen S) : Type 0 where
 
 module _ {S : Type 0} (R : Relations S) (c : Clauses) where
   -- the moves reach a place with the literals told and the state of the theory, and each conflict among them learns
-  pub record IsReached (moves : List Move) (seen : Seen S) : Type 0 where
-    pub place : Place S
+  pub record IsReached (moves : List Move) (seen : TheoryView S) : Type 0 where
+    pub place : Reached S
     pub reached : Reaches R c moves place
     pub learned : ReachesLearning R c moves place
     pub state : place.state ≡ seen.state
     pub trail : literals place.trail ≡ seen.told
 
   -- a truth of each atom with which each clause is true, all told, and the theory's last answer was Fine
-  pub record IsTotal (seen : Seen S) (n : Counts) (truths : List Bool) (moves : List Move) : Type 0 where
+  pub record IsTotal (seen : TheoryView S) (n : Counts) (truths : List Bool) (moves : List Move) : Type 0 where
     pub atoms : length truths ≡ length c.atoms
     pub clauses : Satisfies (truth_in truths) c.clauses
     pub assignment : IsAssignment truths seen.told
@@ -88,7 +88,7 @@ module _ {S : Type 0} (R : Relations S) (c : Clauses) where
     pub tally : IsTally moves n
 
   -- the search stands at a decision
-  pub record IsStopped (seen : Seen S) (n : Counts) (moves : List Move) : Type 0 where
+  pub record IsStopped (seen : TheoryView S) (n : Counts) (moves : List Move) : Type 0 where
     pub calm : IsCalm R seen
     pub reached : IsReached moves seen
     pub tally : IsTally moves n
@@ -106,14 +106,14 @@ module _ {S : Type 0} (R : Relations S) (c : Clauses) where
     pub all : how_many (is_charged R c) moves ≡ n.limit
     pub tally : IsTally moves n
 
-  -- an operation passed, in the last move or at the place reached
+  -- an operation overflowed, in the last move or at the place reached
   pub record IsStuck (n : Counts) (stuck : Stuck) (moves : List Move) : Type 0 where
     pub sticks : Sticks R c moves stuck
     pub learned : SticksLearning R c moves stuck
     pub tally : IsTally moves n
 
   -- what an answer says of the theory and the counts that it leaves
-  abbrev pub Finds : Seen S → Counts → Found → Type 0
+  abbrev pub Finds : TheoryView S → Counts → Found → Type 0
   Finds seen n (found.Total truths journal) = IsTotal seen n truths journal.moves
   Finds seen n (found.Closed cert) = IsClosed cert
   Finds seen n (found.Spent journal) = IsSpent n journal.moves
@@ -121,6 +121,6 @@ module _ {S : Type 0} (R : Relations S) (c : Clauses) where
   Finds seen n found.NoMemory = Unit {0}
 
   -- the same of a search that may be stopped, with what its guide says of a stop
-  abbrev pub FindsUntil : Type 0 → Seen S → Counts → Until → Type 0
+  abbrev pub FindsUntil : Type 0 → TheoryView S → Counts → Until → Type 0
   FindsUntil stop seen n (until.Stopped journal) = IsStopped seen n journal.moves × stop
   FindsUntil stop seen n (until.Found answer) = Finds seen n answer

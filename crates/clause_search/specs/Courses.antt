@@ -9,8 +9,8 @@ use Rattle.farkas_cert.specs.declared.literals.Lit.{Lit}
 use Rattle.farkas_cert.specs.declared.trees.Part.{Part}
 use Rattle.clause_form.specs.declared.clauses.Clauses.{Clauses}
 use Rattle.clause_form.specs.Derivations.{Follow, HasAtom, IsContradiction, NamesOnce, Rows, SumsFit, rows_of}
-use Rattle.clause_form.specs.Journals.{Entry, IsSettled, Last, Place, cut, literal, literals, nothing}
-use Rattle.clause_form.specs.Theories.{HasSolution, Relations, Seen, works}
+use Rattle.clause_form.specs.Journals.{Entry, IsSettled, Last, Reached, cut, literal, literals, nothing}
+use Rattle.clause_form.specs.Theories.{HasSolution, Relations, TheoryView, works}
 use Rattle.clause_form.specs.WellFormed.{IsWellFormed}
 use Rattle.learned_clause.specs.Learning.{IsUnitOn}
 use Rattle.learned_clause.specs.Trails.{DecidedAt, IsTrail, known_with}
@@ -24,7 +24,7 @@ use Rattle.clause_search.specs.Tables.{View}
 abbrev pub clauses_of : List Lemma → List (List Lit)
 clauses_of lemmas = map (λ lemma. lemma.clause) lemmas
 
-abbrev pub place : {S : Type 0} → List Entry → List Lemma → S → Last → Place S
+abbrev pub place : {S : Type 0} → List Entry → List Lemma → S → Last → Reached S
 place trail lemmas s last = record { trail = trail; lemmas = clauses_of lemmas; state = s; last = last }
 
 -- where a decision stands, each clause known now is neither false nor unit on the trail before it
@@ -61,7 +61,7 @@ abbrev pub work_left : Course → Counts → ℕ
 work_left course n = work_at_clash course n + weight course.phase
 
 module _ {S : Type 0} (R : Relations S) (c : Clauses) (s : S) where
-  pub record IsUnderway (trail : List Entry) (lemmas : List Lemma) (moves : List Move) (last : Last) (seen : Seen S) (n : Counts) : Type 0 where
+  pub record IsUnderway (trail : List Entry) (lemmas : List Lemma) (moves : List Move) (last : Last) (seen : TheoryView S) (n : Counts) : Type 0 where
     pub formed : IsWellFormed c
     pub legal : ReachesLearning (starting_at s R) c moves (place trail lemmas seen.state last)
     pub told : seen.told ≡ literals trail
@@ -80,7 +80,7 @@ module _ {S : Type 0} (R : Relations S) (c : Clauses) (s : S) where
 
   -- a literal was told and no check followed, or nothing happened yet; a check answered Fine; or the trail was cut, and the lemma is
   -- unit
-  abbrev pub IsInPhase : List Entry → List Lemma → Last → Seen S → Phase → Type 0
+  abbrev pub IsInPhase : List Entry → List Lemma → Last → TheoryView S → Phase → Type 0
   IsInPhase trail lemmas last seen Told =
       (seen.owes ≡ false) × (R.contradicts seen.state → ⊥) × ((last ≡ literal) ⊎ ((last ≡ nothing) × (R.violated seen.state → ⊥)))
   IsInPhase trail lemmas last seen Checked =
@@ -88,14 +88,14 @@ module _ {S : Type 0} (R : Relations S) (c : Clauses) (s : S) where
   IsInPhase trail lemmas last seen Cut =
       (seen.owes ≡ false) × (last ≡ cut) × IsTaught (known_with c.clauses lemmas) (literals trail)
 
-  pub record IsStage (view : View) (lemmas : List Lemma) (moves : List Move) (phase : Phase) (seen : Seen S) (n : Counts) : Type 0 where
+  pub record IsStage (view : View) (lemmas : List Lemma) (moves : List Move) (phase : Phase) (seen : TheoryView S) (n : Counts) : Type 0 where
     pub last : Last
     pub atoms : view.atoms ≡ length c.atoms
     pub underway : IsUnderway view.entries lemmas moves last seen n
     pub in_phase : IsInPhase view.entries lemmas last seen phase
 
   -- the rows of the trail contradict, which the theory found straight after a literal or a pivot
-  pub record IsClash (view : View) (lemmas : List Lemma) (moves : List Move) (seen : Seen S) (n : Counts) (parts : List Part) : Type 0 where
+  pub record IsClash (view : View) (lemmas : List Lemma) (moves : List Move) (seen : TheoryView S) (n : Counts) (parts : List Part) : Type 0 where
     pub last : Last
     pub atoms : view.atoms ≡ length c.atoms
     pub underway : IsUnderway view.entries lemmas moves last seen n
@@ -106,7 +106,7 @@ module _ {S : Type 0} (R : Relations S) (c : Clauses) (s : S) where
     pub moved : last ≡ cut → ⊥
 
   -- the literal may be put on the trail, whose literals have a common solution where it is decided
-  pub record IsLegal (view : View) (lemmas : List Lemma) (moves : List Move) (seen : Seen S) (n : Counts) (l : Lit) (by : Option ℕ) : Type 0 where
+  pub record IsLegal (view : View) (lemmas : List Lemma) (moves : List Move) (seen : TheoryView S) (n : Counts) (l : Lit) (by : Option ℕ) : Type 0 where
     pub last : Last
     pub atoms : view.atoms ≡ length c.atoms
     pub underway : IsUnderway view.entries lemmas moves last seen n
@@ -115,17 +115,17 @@ module _ {S : Type 0} (R : Relations S) (c : Clauses) (s : S) where
     pub solved : by ≡ None → HasSolution (rows_of c) (literals view.entries)
 
   -- the search stands at this course
-  abbrev pub IsAt : Course → Seen S → Counts → Type 0
+  abbrev pub IsAt : Course → TheoryView S → Counts → Type 0
   IsAt course seen n = IsStage course.trail course.lemmas course.journal.moves course.phase seen n
 
-  abbrev pub IsAtClash : Course → Seen S → Counts → List Part → Type 0
+  abbrev pub IsAtClash : Course → TheoryView S → Counts → List Part → Type 0
   IsAtClash course seen n parts = IsClash course.trail course.lemmas course.journal.moves seen n parts
 
-  abbrev pub MayAssume : Course → Seen S → Counts → Lit → Option ℕ → Type 0
+  abbrev pub MayAssume : Course → TheoryView S → Counts → Lit → Option ℕ → Type 0
   MayAssume course seen n l by = IsLegal course.trail course.lemmas course.journal.moves seen n l by
 
 -- what the theory and the trail need before the literal is told
-pub record MayBeTold {S : Type 0} (view : View) (seen : Seen S) (l : Lit) : Type 0 where
+pub record MayBeTold {S : Type 0} (view : View) (seen : TheoryView S) (l : Lit) : Type 0 where
   pub in_range : l.atom < view.atoms
   pub free : HasAtom l.atom (literals view.entries) → ⊥
   pub told : seen.told ≡ literals view.entries
@@ -135,7 +135,7 @@ pub record MayBeTold {S : Type 0} (view : View) (seen : Seen S) (l : Lit) : Type
   pub at_work : seen.rest ≡ works
 
 -- a check is due
-pub record IsDue {S : Type 0} (phase : Phase) (seen : Seen S) : Type 0 where
+pub record IsDue {S : Type 0} (phase : Phase) (seen : TheoryView S) : Type 0 where
   pub told : phase ≡ Told
   pub paid : seen.owes ≡ false
   pub at_work : seen.rest ≡ works

@@ -4,7 +4,7 @@ use Rattle.farkas_cert.specs.declared.literals.Lit.{Lit}
 use Rattle.clause_form.specs.declared.clauses.Atom.TheVariants.{Named}
 use Rattle.clause_form.specs.declared.clauses.Clauses.{Clauses}
 use Rattle.clause_form.specs.Derivations.{Rows, rows_of}
-use Rattle.clause_form.specs.Theories.{Relations, Seen, without_memory, works}
+use Rattle.clause_form.specs.Theories.{Relations, TheoryView, without_memory, works}
 use Rattle.clause_form.specs.WellFormed.{Below, IsWellFormed}
 
 -- this many named atoms
@@ -36,7 +36,7 @@ names = record {
   violated = λ s. ⊥;
 }
 
-abbrev pub seen_names : ℕ → List Lit → Bool → Bool → Seen (Unit {0})
+abbrev pub seen_names : ℕ → List Lit → Bool → Bool → TheoryView (Unit {0})
 seen_names n told fine working =
     record { rows = named_rows n; told = told; state = tt; fine = fine; owes = false; rest = if working then works else without_memory }
 

@@ -10,7 +10,7 @@ use Rattle.clause_form.specs.declared.theory.Heard.{Heard}
 use Rattle.clause_form.specs.declared.theory.Heard.TheVariants as heard
 use Rattle.clause_form.specs.Derivations.{EndsEmpty, Follow, rows_of}
 use Rattle.clause_form.specs.Journals.{IsFree, IsSettled, Last, cut, literals}
-use Rattle.clause_form.specs.Theories.{Relations, Seen}
+use Rattle.clause_form.specs.Theories.{Relations, TheoryView}
 use Rattle.learned_clause.specs.Learning.{CutsTo, IsLearnedFrom}
 use Rattle.learned_clause.specs.Trails.{known_with}
 use Rattle.learned_clause.specs.declared.learning.Start.{Start}
@@ -37,7 +37,7 @@ LeavesLess work course n heard.NoMemory = Unit {0}
 
 module _ {S : Type 0} (R : Relations S) (c : Clauses) (s : S) where
   -- the theory was asked: nothing speaks against the trail, or its rows contradict, or the search ends
-  abbrev pub Asks : Course → Seen S → Counts → Heard → Type 0
+  abbrev pub Asks : Course → TheoryView S → Counts → Heard → Type 0
   Asks course seen n heard.Fine = IsAt R c s course seen n
   Asks course seen n (heard.Clash parts) = IsAtClash R c s course seen n parts
   Asks course seen n heard.Spent = IsSpent (starting_at s R) c n course.journal.moves
@@ -45,7 +45,7 @@ module _ {S : Type 0} (R : Relations S) (c : Clauses) (s : S) where
   Asks course seen n heard.NoMemory = Unit {0}
 
   -- what is false at a conflict
-  abbrev pub IsConflict : Course → Seen S → Counts → Start → Type 0
+  abbrev pub IsConflict : Course → TheoryView S → Counts → Start → Type 0
   IsConflict course seen n (Clause number) = IsAt R c s course seen n × IsFalseAt (known_with c.clauses course.lemmas) (literals course.trail.entries) number
   IsConflict course seen n (Clash parts) = IsAtClash R c s course seen n parts
 
@@ -57,28 +57,28 @@ module _ {S : Type 0} (R : Relations S) (c : Clauses) (s : S) where
     pub few : length c.clauses + length course.lemmas ≤ 2 ^ 32
 
   -- the trail has each atom, each clause is true, and the last check answered Fine
-  pub record IsComplete (course : Course) (seen : Seen S) (n : Counts) : Type 0 where
+  pub record IsComplete (course : Course) (seen : TheoryView S) (n : Counts) : Type 0 where
     pub at : IsAt R c s course seen n
     pub checked : course.phase ≡ Checked
     pub settled : IsSettled (known_with c.clauses course.lemmas) (literals course.trail.entries)
     pub whole : NameAll (length c.atoms) (literals course.trail.entries)
 
   -- nothing is to be checked first
-  abbrev pub IsAdvancing : Course → Seen S → Counts → Type 0
+  abbrev pub IsAdvancing : Course → TheoryView S → Counts → Type 0
   IsAdvancing course seen n = IsAt R c s course seen n × (course.phase ≡ Told → ⊥)
 
   -- and the clause with this number gives the literal
-  abbrev pub IsPropagating : Course → Seen S → Counts → Lit → ℕ → Type 0
+  abbrev pub IsPropagating : Course → TheoryView S → Counts → Lit → ℕ → Type 0
   IsPropagating course seen n l by = IsAdvancing course seen n × Follows (known_with c.clauses course.lemmas) (literals course.trail.entries) l by
 
   -- or no clause is false or gives a literal
-  abbrev pub IsDeciding : Course → Seen S → Counts → Option Lit → Type 0
+  abbrev pub IsDeciding : Course → TheoryView S → Counts → Option Lit → Type 0
   IsDeciding course seen n wish =
       IsAdvancing course seen n × IsSettled (known_with c.clauses course.lemmas) (literals course.trail.entries)
       × IfWanted (known_with c.clauses course.lemmas) (literals course.trail.entries) wish
 
   -- the lemma is the learned clause of a start, and a cut to this length makes it unit
-  pub record IsCutting (view : View) (lemmas : List Lemma) (moves : List Move) (seen : Seen S) (n : Counts) (lemma : Lemma) (keep : ℕ) : Type 0 where
+  pub record IsCutting (view : View) (lemmas : List Lemma) (moves : List Move) (seen : TheoryView S) (n : Counts) (lemma : Lemma) (keep : ℕ) : Type 0 where
     pub last : Last
     pub atoms : view.atoms ≡ length c.atoms
     pub underway : IsUnderway R c s view.entries lemmas moves last seen n
@@ -87,11 +87,11 @@ module _ {S : Type 0} (R : Relations S) (c : Clauses) (s : S) where
     pub moved : last ≡ cut → ⊥
     pub lesson : IsLesson (starting_at s R) c (place view.entries lemmas seen.state last) lemma.clause keep
 
-  abbrev pub IsJump : Course → Seen S → Counts → Lemma → ℕ → Type 0
+  abbrev pub IsJump : Course → TheoryView S → Counts → Lemma → ℕ → Type 0
   IsJump course seen n lemma keep = IsCutting course.trail course.lemmas course.journal.moves seen n lemma keep
 
   -- the search goes on with less work left, or has found its answer
-  abbrev pub Steps : ℕ → Course → Seen S → Counts → Step → Type 0
+  abbrev pub Steps : ℕ → Course → TheoryView S → Counts → Step → Type 0
   Steps work course seen n step.GoesOn = IsAt R c s course seen n × (work_left course n < work)
   Steps work course seen n step.Total = IsComplete course seen n
   Steps work course seen n step.Closed = IsRefuted course
@@ -100,17 +100,17 @@ module _ {S : Type 0} (R : Relations S) (c : Clauses) (s : S) where
   Steps work course seen n step.NoMemory = Unit {0}
 
   -- the search stands at a decision, and the last check answered Fine
-  pub record IsPaused (course : Course) (seen : Seen S) (n : Counts) : Type 0 where
+  pub record IsPaused (course : Course) (seen : TheoryView S) (n : Counts) : Type 0 where
     pub at : IsAt R c s course seen n
     pub checked : course.phase ≡ Checked
 
   -- a step is made, or the guide stops the search
-  abbrev pub Turns : Type 0 → ℕ → Course → Seen S → Counts → Turn → Type 0
+  abbrev pub Turns : Type 0 → ℕ → Course → TheoryView S → Counts → Turn → Type 0
   Turns stop work course seen n (turn.Takes made) = Steps work course seen n made
   Turns stop work course seen n turn.Stops = IsPaused course seen n × stop
 
 -- what a cut needs before it
-pub record MayJump {S : Type 0} (known : List (List Lit)) (seen : Seen S) (n : Counts) (keep : ℕ) : Type 0 where
+pub record MayJump {S : Type 0} (known : List (List Lit)) (seen : TheoryView S) (n : Counts) (keep : ℕ) : Type 0 where
   pub few : length known < 2 ^ 32
   pub within : keep ≤ length seen.told
   pub counted : n.conflicts < 2 ^ 63

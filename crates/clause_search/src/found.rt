@@ -12,7 +12,7 @@ pub enum Found {
     Closed(Cert),
     /// The budget is spent, and a further move may be made.
     Spent(Journal),
-    /// An operation of the theory passed.
+    /// An operation of the theory overflowed.
     Stuck(Stuck, Journal),
     NoMemory,
 }

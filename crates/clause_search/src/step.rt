@@ -28,7 +28,7 @@ pub(crate) enum Step {
     Closed,
     /// The budget is spent.
     Spent,
-    /// An operation of the theory passed.
+    /// An operation of the theory overflowed.
     Stuck(Stuck),
     NoMemory,
 }

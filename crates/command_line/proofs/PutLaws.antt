@@ -3,8 +3,8 @@ use Rattle.std.proofs.Common.{◌≡◌, ◌≤◌, ℕ, List, [], subst, ap₂,
 use Rattle.ccac_ports.specs.Ports.{Got, Told}
 use Rattle.ccac_ports.specs.declared.mem_sink.MemSink.{MemSink}
 use Rattle.ccac_ports.specs.MemSink.{faults, text_of}
-use Rattle.ccac_cli.specs.Ended.{Ends, cut_short, no_memory_left, whole}
-use Rattle.ccac_cli.specs.Reports.{Answer}
+use Rattle.file_reports.specs.Ended.{Ends, cut_short, no_memory_left, whole}
+use Rattle.file_reports.specs.Reports.{Answer}
 use Rattle.report_put.specs.Json.{text_as_json}
 use Rattle.report_put.specs.Put.{IsPut, put_failed, put_whole, put_without_memory}
 use Rattle.command_line.specs.Kept.{holding}

@@ -2,9 +2,9 @@
 use Rattle.std.proofs.Common.{◌≡◌, ◌∙◌, ℕ, true, false, List, subst, sym}
 use Rattle.ccac_ports.specs.Ports.{Got, Told}
 use Rattle.command_words.specs.Forms.{asked_of}
-use Rattle.command_table.specs.Commands.{commands}
 use Rattle.command_table.specs.Plain.{bytes_of, plain_of, wants_json}
 use Rattle.command_table.specs.declared.plain.Plain.{Plain}
+use Rattle.command_line.specs.Table.{commands}
 use Rattle.command_line.specs.Runs.{Carries, InJson, Runs, as_it_is, in_json}
 
 -- the plain words are what is asked for by these words

@@ -2,10 +2,11 @@
 use Rattle.std.specs.Prelude.{◌≡◌, ℕ, ◌≤◌, List, ◌⊎◌, None, Some}
 use Rattle.ccac_ports.specs.Ports.{Got, HasRisen, Told}
 use Rattle.ccac_cli.specs.Commands.{Order, check, order_of}
-use Rattle.ccac_cli.specs.Ended.{Answers, CanCheck, Ends, IsAnswered, ToldAnswers}
+use Rattle.file_reports.specs.Ended.{Ends, IsAnswered}
+use Rattle.ccac_cli.specs.Ended.{Answers, CanCheck, ToldAnswers}
 use Rattle.ccac_cli.specs.Headline.{Headline}
 use Rattle.ccac_cli.specs.Meaning.{IsMeant}
-use Rattle.ccac_cli.specs.Reports.{Answer}
+use Rattle.file_reports.specs.Reports.{Answer}
 
 pub record CarriesOut (old new : Told) (words : List (List ℕ)) (before after : Got) (status : ℕ) : Type 0 where
   pub ended : Ends (Answers old new (order_of words)) before after status

@@ -1,7 +1,7 @@
 -- What `gen SEED SIZE` reports: the two texts of the seed and the size, judged in memory.
 use Rattle.std.specs.Prelude.{◌≤◌, ℕ, List, length}
 use Rattle.ccac_ports.specs.Ports.{Told}
-use Rattle.ccac_cli.specs.Reports.{Answer}
+use Rattle.file_reports.specs.Reports.{Answer}
 use Rattle.ctrl_gen.specs.Problems.{controller_text, question_text}
 use Rattle.gen_report.specs.Files.{Holds, check_words}
 use Rattle.gen_report.specs.Reports.{Reported, report_of}

@@ -1,3 +1,4 @@
+pub mod Table
 pub mod Carried
 pub mod Kept
 pub mod Generated

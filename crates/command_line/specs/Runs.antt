@@ -1,8 +1,8 @@
 -- How a command line ends.
 use Rattle.std.specs.Prelude.{◌≡◌, ℕ, ◌≤◌, true, false, List, [], Option, None, Some}
 use Rattle.ccac_ports.specs.Ports.{Appends, Got, Told}
-use Rattle.ccac_cli.specs.Ended.{Ends}
-use Rattle.command_words.specs.Forms.{Asked}
+use Rattle.file_reports.specs.Ended.{Ends}
+use Rattle.command_words.specs.Forms.{RequestView}
 use Rattle.command_table.specs.Plain.{plain_of, wants_json}
 use Rattle.report_put.specs.Json.{text_as_json}
 use Rattle.report_put.specs.Put.{IsPut}
@@ -32,7 +32,7 @@ pub data InJson (old new : Told) (words : List (List ℕ)) (before after : Got) 
 -- ---- command lines
 
 -- what is asked for is carried out, with its report as it is or as JSON; or memory ran out before
-pub data Runs (old new : Told) (asked : Option Asked) (before after : Got) : ℕ → Type 0 where
+pub data Runs (old new : Told) (asked : Option RequestView) (before after : Got) : ℕ → Type 0 where
   as_it_is : (status : ℕ) → wants_json asked ≡ false → Carries old new (plain_of asked) before after status → Runs old new asked before after status
   in_json : (status : ℕ) → wants_json asked ≡ true → InJson old new (plain_of asked) before after status → Runs old new asked before after status
   no_memory : Appends before.text after.text [] → Runs old new asked before after 7

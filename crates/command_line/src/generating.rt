@@ -1,5 +1,5 @@
 ghost use Rattle.std.specs.Prelude.{◌≤◌, IfOk};
-ghost use Rattle.ccac_cli.specs.Ended.{Ends};
+ghost use Rattle.file_reports.specs.Ended.{Ends};
 ghost use Rattle.gen_report.specs.Shown.{seed_seen, shown};
 ghost use Rattle.command_line.specs.Generated.{Generates, answer_of};
 

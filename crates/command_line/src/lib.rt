@@ -7,6 +7,7 @@ mod carrying;
 mod generating;
 mod json;
 mod running;
+mod table;
 #[cfg(test)]
 mod tests;
 

@@ -1,12 +1,12 @@
 ghost use Rattle.std.specs.Prelude.{map, string_bytes};
 ghost use Rattle.command_words.specs.Forms.{asked_of};
-ghost use Rattle.command_table.specs.Commands.{commands};
+ghost use Rattle.command_line.specs.Table.{commands};
 ghost use Rattle.command_line.specs.Runs.{Runs};
 
 use crate::carrying::carry_out;
 use crate::json::in_json;
+use crate::table::plain;
 use ccac_ports::{Folder, Sink};
-use command_table::plain_words;
 use report_put::NO_MEMORY;
 use std::alloc::Global;
 use whole::NoMemory;
@@ -28,7 +28,7 @@ pub fn run<F: Folder, S: Sink>(
 ) -> u8
     ensures { Runs (F.tells folder.old) (F.tells folder.new) (asked_of commands (map string_bytes words.now.items)) (S.got out.old) (S.got out.new) result }
 {
-    match plain_words(alloc, words.as_slice()) {
+    match plain(alloc, words.as_slice()) {
         Ok(plain) => {
             if plain.json {
                 in_json(alloc, &plain.words, folder, out)

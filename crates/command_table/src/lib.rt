@@ -1,11 +1,9 @@
-//! The program's commands, each an entry of one table, and what a command line asks for by it.
+//! What a command line asks for by a table of commands, as plain words: a command's word and its values, with no option among them.
 //!
-//! `clap` reads the words behind a command's own by the command that is made of its entry. What is left is plain: the command's
-//! word and its values, with no option among them.
+//! `clap` reads the words behind a command's own by the command that is made of its entry.
 #![tactic(auto)]
 
 mod plain;
-mod table;
 #[cfg(test)]
 mod tests;
 

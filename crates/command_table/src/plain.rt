@@ -1,11 +1,9 @@
-ghost use Rattle.std.specs.Prelude.{◌≡◌, ◌∷◌, IfOk, map, string_bytes};
-ghost use Rattle.command_words.specs.Forms.{asked_of};
-ghost use Rattle.command_words.specs.Seen.{seen};
-ghost use Rattle.command_table.specs.Commands.{commands};
+ghost use Rattle.std.specs.Prelude.{◌≡◌, ◌∷◌, IfOk, IsTrue, map, string_bytes};
+ghost use Rattle.command_words.specs.Forms.{are_entries, asked_of, entry_of};
+ghost use Rattle.command_words.specs.Views.{seen};
 ghost use Rattle.command_table.specs.Plain.{bytes_of, plain_of, wants_json};
 
-use crate::table::COMMANDS;
-use command_words::{Request, request_of};
+use command_words::{Form, Request, request_of};
 use std::alloc::{AllocError, Global};
 use whole::NoMemory;
 
@@ -17,12 +15,13 @@ pub struct Plain {
 }
 
 /// The words of a command line without options: a command's word, and its values behind it. There are none where the words ask
-/// for nothing by the table.
-pub fn plain_words(alloc: Global, words: &[String]) -> Result<Plain, NoMemory>
-    ensures words { IfOk result (λ plain. bytes_of plain ≡ plain_of (asked_of commands (map string_bytes words.now))) }
-    ensures json { IfOk result (λ plain. plain.json ≡ wants_json (asked_of commands (map string_bytes words.now))) }
+/// for nothing by this table.
+pub fn plain_words(alloc: Global, forms: &[Form], words: &[String]) -> Result<Plain, NoMemory>
+    requires { IsTrue (are_entries (map entry_of forms.now)) }
+    ensures words { IfOk result (λ plain. bytes_of plain ≡ plain_of (asked_of (map entry_of forms.now) (map string_bytes words.now))) }
+    ensures json { IfOk result (λ plain. plain.json ≡ wants_json (asked_of (map entry_of forms.now) (map string_bytes words.now))) }
 {
-    match request_of(alloc, &COMMANDS, words)? {
+    match request_of(alloc, forms, words)? {
         Some(request) => Ok(Plain {
             words: words_of(alloc, &request)?,
             json: request.json,

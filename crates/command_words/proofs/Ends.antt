@@ -13,7 +13,7 @@ use Rattle.clap.specs.declared.builder.value_parser.Reading.TheVariants as readi
 use Rattle.clap.specs.declared.parser.matches.ValueSource.TheVariants.{DefaultValue}
 use Rattle.command_words.proofs.Rows.{new_found, row_at, row_missing, row_there, with_new}
 use Rattle.command_words.proofs.Rules.{default_row, flag_row, json_row, json_taken, value_taken, values_taken}
-use Rattle.command_words.proofs.Walks.{Apart, Fills, fills_on, room_for}
+use Rattle.command_words.proofs.WordLaws.{Apart, Fills, fills_on, room_for}
 use Rattle.std.specs.Prelude.{slice_get}
 
 -- ---- defaults

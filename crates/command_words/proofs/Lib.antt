@@ -1,7 +1,7 @@
 pub mod Rules
 pub mod Rows
 pub mod Meeting
-pub mod Walks
+pub mod WordLaws
 pub mod Ends
 pub mod Verdicts
 pub mod RequestLaws

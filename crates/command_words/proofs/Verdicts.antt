@@ -10,13 +10,13 @@ use Rattle.clap.specs.Simple.{App, argument_words, built, entered, label_of, mat
 use Rattle.clap.specs.Walk.{Held, Row, Rule, Text, finished, first_of, nothing_held, one_of, rows_after, settled, settled_rows, walk, with_default}
 use Rattle.clap.specs.declared.error.kind.ErrorKind.TheVariants as kind
 use Rattle.command_words.specs.Clap.{all_names, app_by, app_of_range}
-use Rattle.command_words.specs.Forms.{Asked, Entry, asked_by, is_entry, takes_count}
+use Rattle.command_words.specs.Forms.{RequestView, Entry, asked_by, is_entry, takes_count}
 use Rattle.command_words.specs.Words.{json_of, options_of, values_of}
 use Rattle.command_words.proofs.Ends.{all_default, all_faultless, final, final_fills, final_flag, final_values, unmet}
 use Rattle.command_words.proofs.Meeting.{FindsFlag, not_empty}
 use Rattle.command_words.proofs.Rows.{row_at}
 use Rattle.command_words.proofs.Rules.{flag_row, held, json_taken, pending, ready, rules_taken, standing}
-use Rattle.command_words.proofs.Walks.{Apart, Distinct, Ended, Fills, Places, Stands, WalkEnds, joined, or_else_none, room_for, suits, words_end}
+use Rattle.command_words.proofs.WordLaws.{Apart, Distinct, Ended, Fills, Places, Stands, WalkEnds, joined, or_else_none, room_for, suits, words_end}
 
 -- ---- a command that is built
 
@@ -111,7 +111,7 @@ room_is room [] = sym (le-leb 0 room (omega arith))
 room_is zero (word ∷ words) = sym (lt-leb (length (word ∷ words)) 0 (omega arith))
 room_is (suc room) (word ∷ words) = room_is room words ∙ same_le (length words) room
 
-abbrev pub asked_to : Entry → List Text → Bool → Asked
+abbrev pub asked_to : Entry → List Text → Bool → RequestView
 asked_to entry words json = record { word = entry.word; values = values_of words; json = json }
 
 asked_where : (entry : Entry) (words : List Text) → nat_lt (length (values_of words)) entry.least ≡ false → room_for entry.most (values_of words) ≡ true → suits false (options_of words) ≡ true
@@ -125,7 +125,7 @@ not_asked : (entry : Entry) (words : List Text) → (takes_count entry (length (
 not_asked entry words (inl e) = ap (λ b. if b then option_map (λ json. asked_to entry words json) (json_of (options_of words)) else None) e
 not_asked entry words (inr e) = ap (λ o. if takes_count entry (length (values_of words)) then option_map (λ json. asked_to entry words json) o else None) e ∙ none_both (takes_count entry (length (values_of words)))
   where
-    none_both : (b : Bool) → ◌≡◌ {A = Option Asked} (if b then None else None) None
+    none_both : (b : Bool) → ◌≡◌ {A = Option RequestView} (if b then None else None) None
     none_both true = refl
     none_both false = refl
 

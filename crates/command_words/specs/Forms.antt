@@ -16,7 +16,7 @@ abbrev pub entry_of : Form → Entry
 entry_of form = record { word = form.word.now; least = form.least; most = form.most }
 
 -- what is asked for: a command by its word, its values, and whether the report is to be JSON
-pub record Asked : Type 0 where
+pub record RequestView : Type 0 where
   pub word : Text
   pub values : List Text
   pub json : Bool
@@ -34,13 +34,13 @@ abbrev pub takes_count : Entry → ℕ → Bool
 takes_count entry count = nat_le entry.least count && nat_le count entry.most
 
 -- what the words behind that of a command ask for
-abbrev pub asked_by : Entry → List Text → Option Asked
+abbrev pub asked_by : Entry → List Text → Option RequestView
 asked_by entry words =
     if takes_count entry (length (values_of words))
     then option_map (λ json. record { word = entry.word; values = values_of words; json = json }) (json_of (options_of words))
     else None
 
 -- what the words ask for, the first of which names the command
-abbrev pub asked_of : List Entry → List Text → Option Asked
+abbrev pub asked_of : List Entry → List Text → Option RequestView
 asked_of entries [] = None
 asked_of entries (word ∷ words) = option_and_then (λ entry. asked_by entry words) (find (λ entry. bytes_eq entry.word word) entries)

@@ -1,4 +1,4 @@
 pub mod Words
 pub mod Forms
 pub mod Clap
-pub mod Seen
+pub mod Views

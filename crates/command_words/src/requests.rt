@@ -2,7 +2,7 @@ ghost use Rattle.std.specs.Prelude.{◌≡◌, IfOk, IsTrue, drop, map, option_m
 ghost use Rattle.std.specs.List.{filter_map};
 ghost use Rattle.clap.specs.Words.{first_value, found_of};
 ghost use Rattle.command_words.specs.Forms.{are_entries, asked_by, asked_of, entry_of, is_entry};
-ghost use Rattle.command_words.specs.Seen.{seen};
+ghost use Rattle.command_words.specs.Views.{seen};
 
 use crate::clap_command::{NAMES, command_by};
 use crate::forms::{Form, form_named};

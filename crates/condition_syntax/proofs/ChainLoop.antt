@@ -3,8 +3,8 @@ use Rattle.std.proofs.Common.{◌≡◌, ℕ, suc, pred, ◌≤◌, true, false,
 use Rattle.text_lines.proofs.StepLaws.{with_front, regroup}
 use Rattle.source_text.specs.Tokens.{after}
 use Rattle.condition_syntax.specs.declared.faults.Fault.{Fault}
-use Rattle.condition_syntax.specs.declared.faults.Halt.{Halt}
-use Rattle.condition_syntax.specs.declared.faults.Halt.TheVariants.{Fault as Faulty, NoMemory}
+use Rattle.condition_syntax.specs.declared.faults.ReadStop.{ReadStop}
+use Rattle.condition_syntax.specs.declared.faults.ReadStop.TheVariants.{Fault as Faulty, NoMemory}
 use Rattle.condition_syntax.specs.Halts.{Halts}
 use Rattle.condition_syntax.specs.Fronts.{says}
 use Rattle.condition_syntax.specs.Trees.{Condition}
@@ -55,6 +55,6 @@ module _ (joint : List ℕ) (part : Reader) where
         sym so_far.told ∙ one
 
     -- a part failed
-    pub chain_fails : (halt : Halt) → Halts halt (part s) → Halts halt total
+    pub chain_fails : (halt : ReadStop) → Halts halt (part s) → Halts halt total
     chain_fails NoMemory read = tt
     chain_fails (Faulty fault) read = chain_stops fault read

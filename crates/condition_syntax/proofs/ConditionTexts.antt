@@ -13,8 +13,8 @@ use Rattle.condition_syntax.specs.declared.conditions.Style.{Style}
 use Rattle.condition_syntax.specs.Trees.{Condition, opposite, conjunction, disjunction, conjoined, disjoined}
 use Rattle.condition_syntax.specs.Words.{rel_of}
 use Rattle.condition_syntax.specs.Grammar.{Joined, one, more, SpellsSimple, truth, falsity, test, compared, SpellsOpened, simple, negated, bracketed, Nothing, SpellsConjunction, SpellsJoined, SpellsPart, SpellsCond}
-use Rattle.condition_syntax.specs.Printing.{number_text, expr_text, rel_text, is_conjunction, is_disjunction, bracketed_if, condition_text}
-use Rattle.condition_syntax.specs.Printed.{Shows, Prints, EndsToken}
+use Rattle.condition_syntax.specs.CanonicalText.{number_text, expr_text, rel_text, is_conjunction, is_disjunction, bracketed_if, condition_text}
+use Rattle.condition_syntax.specs.CanonicalTokens.{Shows, Prints, EndsToken}
 use Rattle.condition_syntax.proofs.TextShows.{shows_word, shows_space, shows_then, shows_spaced, shows_word_then, shows_sign_then, shows_sign_tight, shows_closed, from_line_parts}
 use Rattle.condition_syntax.proofs.TextLaws.{is_conjunction-conjunction, is_disjunction-conjunction, is_disjunction-disjunction, and_part, or_part, listed, text-conjunction, text-disjunction}
 use Rattle.condition_syntax.specs.Conditions.{condition_by}

@@ -19,7 +19,7 @@ use Rattle.condition_syntax.specs.Trees.{Condition, always, never, comparison, d
 use Rattle.condition_syntax.specs.Expressions.{expr_by}
 use Rattle.condition_syntax.specs.Conditions.{Pending, pending, Reader, behind, side_begins, counted, rel_or, rel_by, comparison_by, rows_by, sign_by, delay_by, has_delays, opening_of, chain_by, conjunction_by, joined_by, opposite_by, bracketed_by, opened_by, too_deep, part_by, condition_within, condition_by}
 use Rattle.condition_syntax.specs.Grammar.{IsNumber, IsNameWord, SpellsExpr, unsigned, negative, Joined, one, more, SpellsSimple, truth, falsity, test, compared, SpellsOpened, simple, negated, bracketed, Nothing, SpellsConjunction, SpellsJoined, SpellsPart, SpellsCond}
-use Rattle.condition_syntax.specs.Refused.{SideBegins}
+use Rattle.condition_syntax.specs.WrongTokens.{SideBegins}
 use Rattle.condition_syntax.specs.Ends.{Ending, EndsSimple, EndsOpened, EndsJoined, EndsPart, EndsConjunction, EndsWhole, EndsCond, Free}
 use Rattle.condition_syntax.proofs.EndLaws.{StopsExpr, Always, expr_ends, part_ends, conjunction_ends, whole_ends, word_stops, close_stops}
 use Rattle.condition_syntax.proofs.FrontLaws.{stands_there, says_there}

@@ -22,7 +22,7 @@ use Rattle.condition_syntax.specs.Words.{is_keyword, rel_of}
 use Rattle.condition_syntax.specs.Conditions.{Pending, pending, Reader, behind, side_begins, counted, rel_or, rel_by, comparison_by, rows_by, sign_by, delay_by, has_delays, opening_of, chain_by, conjunction_by, joined_by, opposite_by, bracketed_by, opened_by, too_deep, part_by, condition_within, condition_by}
 use Rattle.condition_syntax.specs.Grammar.{IsNameWord, SpellsExpr, Nothing, SpellsConjunction, SpellsJoined, SpellsPart}
 use Rattle.condition_syntax.specs.Ends.{Ending, Taken, EndsExpr, EndsPart, EndsConjunction, EndsWhole, Free}
-use Rattle.condition_syntax.specs.Refused.{IsInside, IsOutside, NoPart, SideBegins, SideMissing, NoNumber, NoRel, RefusesExpr, RefusesSimple, in_side, extra_comparison, in_left, at_relation, in_right, extra_delay, without_relation, without_rows, rows_outside, Refusing, RefusesOpened, in_simple, in_negated, in_brackets, unclosed, TooDeep, RefusesChain, in_one, in_others, RefusesWhole, RefusesPart, RefusesCond}
+use Rattle.condition_syntax.specs.WrongTokens.{IsInside, IsOutside, NoPart, SideBegins, SideMissing, NoNumber, NoRel, RefusesExpr, RefusesSimple, in_side, extra_comparison, in_left, at_relation, in_right, extra_delay, without_relation, without_rows, rows_outside, Refusing, RefusesOpened, in_simple, in_negated, in_brackets, unclosed, TooDeep, RefusesChain, in_one, in_others, RefusesWhole, RefusesPart, RefusesCond}
 use Rattle.condition_syntax.proofs.FrontLaws.{chosen, same_sign_is, says_is}
 use Rattle.condition_syntax.proofs.ExpressionsTaken.{expr_taken}
 use Rattle.condition_syntax.proofs.ConditionsTaken.{ReadsPart, Takes, shorter, counted_is, rel_taken, sign_taken, Opens, opening_is, conjunction_taken, part_taken, whole_taken, none_taken}

@@ -8,8 +8,8 @@ use Rattle.whole.specs.declared.answers.Refusal.{Refusal}
 use Rattle.whole.specs.declared.answers.NoMemory.{NoMemory}
 use Rattle.std.specs.Global.{Vec}
 use Rattle.source_text.specs.Printed.{AreFromLine}
-use Rattle.condition_syntax.specs.Printing.{condition_text, expr_text}
-use Rattle.condition_syntax.specs.Printed.{Prints}
+use Rattle.condition_syntax.specs.CanonicalText.{condition_text, expr_text}
+use Rattle.condition_syntax.specs.CanonicalTokens.{Prints}
 use Rattle.condition_syntax.proofs.ExpressionTexts.{expr_prints}
 use Rattle.condition_syntax.proofs.ConditionTexts.{condition_prints, nests_no_deeper}
 use Rattle.text_lines.specs.Steps.{Fails}
@@ -19,11 +19,11 @@ use Rattle.condition_syntax.specs.declared.conditions.Cond.{Cond}
 use Rattle.condition_syntax.specs.declared.expressions.Expr.{Expr}
 use Rattle.condition_syntax.specs.declared.expressions.ETerm.{ETerm}
 use Rattle.condition_syntax.specs.declared.faults.Fault.{Fault}
-use Rattle.condition_syntax.specs.declared.faults.Halt.{Halt}
-use Rattle.condition_syntax.specs.declared.faults.Halt.TheVariants.{Fault as Faulty, NoMemory as OutOfMemory}
+use Rattle.condition_syntax.specs.declared.faults.ReadStop.{ReadStop}
+use Rattle.condition_syntax.specs.declared.faults.ReadStop.TheVariants.{Fault as Faulty, NoMemory as OutOfMemory}
 use Rattle.condition_syntax.specs.Halts.{Halts}
-use Rattle.condition_syntax.specs.Refusals.{refusal, fault_of, refused, GivesRead, IsRefusedBy}
-use Rattle.condition_syntax.specs.Refused.{RefusesExpr, RefusesCond}
+use Rattle.condition_syntax.specs.RefusalRules.{refusal, fault_of, refused, GivesRead, IsRefusedBy}
+use Rattle.condition_syntax.specs.WrongTokens.{RefusesExpr, RefusesCond}
 use Rattle.condition_syntax.proofs.RefusedFrom.{expr_refused}
 use Rattle.condition_syntax.proofs.ConditionsRefused.{condition_refused}
 use Rattle.condition_syntax.proofs.RefusedAgain.{expr_stops, condition_stops}
@@ -42,7 +42,7 @@ not_refused style line (Ok y) x e = cc
 not_refused style line (Err fault) x e = absurd (cc)
 
 -- a halt is the fault of what is read
-pub halt_fails : {X : Type 0} (style : Style) (line : ℕ) (halt : Halt) (read : Result X Fault) → Halts halt read → Fails (fault_of style line halt) (refused style line read)
+pub halt_fails : {X : Type 0} (style : Style) (line : ℕ) (halt : ReadStop) (read : Result X Fault) → Halts halt read → Fails (fault_of style line halt) (refused style line read)
 halt_fails style line (Faulty fault) read halts = ap (refused style line) halts
 halt_fails style line OutOfMemory read halts = tt
 

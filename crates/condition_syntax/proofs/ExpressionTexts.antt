@@ -17,8 +17,8 @@ use Rattle.condition_syntax.specs.declared.expressions.Name.{Name}
 use Rattle.condition_syntax.specs.declared.expressions.ETerm.{ETerm}
 use Rattle.condition_syntax.specs.Words.{fraction, signed}
 use Rattle.condition_syntax.specs.Grammar.{IsNumber, SpellsFlow, no_flow, some_flow, SpellsStep, no_step, some_step, SpellsName, plain, placed, SpellsTerm, constant, multiple, single, joint_of, SpellsTerms, last_term, more_terms, SpellsExpr, unsigned, negative}
-use Rattle.condition_syntax.specs.Printing.{denominator_text, number_text, mark_text, name_text, is_unit, unsigned_text, is_negative, first_text, later_text, expr_text}
-use Rattle.condition_syntax.specs.Printed.{Shows, Prints, EndsToken}
+use Rattle.condition_syntax.specs.CanonicalText.{denominator_text, number_text, mark_text, name_text, is_unit, unsigned_text, is_negative, first_text, later_text, expr_text}
+use Rattle.condition_syntax.specs.CanonicalTokens.{Shows, Prints, EndsToken}
 use Rattle.source_text.proofs.TokenLaws.{tokens_of_nothing}
 use Rattle.condition_syntax.specs.Expressions.{expr_by}
 use Rattle.condition_syntax.proofs.EndLaws.{expr_ends, end_stops}

@@ -22,7 +22,7 @@ use Rattle.condition_syntax.specs.Expressions.{is_within, number_of, word_by, di
 use Rattle.condition_syntax.specs.Conditions.{Pending, pending, Reader, behind, side_begins, counted, rel_or, rel_by, comparison_by, rows_by, sign_by, delay_by, opening_of, chain_by, conjunction_by, joined_by, opposite_by, bracketed_by, opened_by, too_deep, part_by, condition_within, condition_by}
 use Rattle.condition_syntax.specs.Grammar.{IsNameWord, joint_of, Nothing, SpellsConjunction, SpellsJoined, SpellsPart}
 use Rattle.condition_syntax.specs.Ends.{Ending, EndsPart, EndsConjunction, EndsWhole, Free}
-use Rattle.condition_syntax.specs.Refused.{IsOutside, NoName, NoPart, TermTooMany, NameMissing, TermMissing, SideMissing, NoDigits, NoNumber, NoRel, RefusesName, in_word, in_flow, in_step, without_step, RefusesTerm, in_front, in_multiple, in_single, RefusesTerms, in_first, in_later, one_too_many, RefusesExpr, unsigned_refused, negative_refused, RefusesSimple, in_side, extra_comparison, in_left, at_relation, in_right, extra_delay, without_relation, without_rows, rows_outside, Refusing, RefusesOpened, in_simple, in_negated, in_brackets, unclosed, TooDeep, RefusesChain, in_one, in_others, RefusesWhole, RefusesPart, RefusesCond}
+use Rattle.condition_syntax.specs.WrongTokens.{IsOutside, NoName, NoPart, TermTooMany, NameMissing, TermMissing, SideMissing, NoDigits, NoNumber, NoRel, RefusesName, in_word, in_flow, in_step, without_step, RefusesTerm, in_front, in_multiple, in_single, RefusesTerms, in_first, in_later, one_too_many, RefusesExpr, unsigned_refused, negative_refused, RefusesSimple, in_side, extra_comparison, in_left, at_relation, in_right, extra_delay, without_relation, without_rows, rows_outside, Refusing, RefusesOpened, in_simple, in_negated, in_brackets, unclosed, TooDeep, RefusesChain, in_one, in_others, RefusesWhole, RefusesPart, RefusesCond}
 use Rattle.condition_syntax.proofs.FrontLaws.{stands_there, says_there}
 use Rattle.condition_syntax.proofs.EndLaws.{Always, expr_ends, term_ends, joint_stops, part_ends, conjunction_ends, word_stops}
 use Rattle.condition_syntax.proofs.ExpressionsAgain.{within_from, word_again, flow_again, at_ends_flow, numbered_term, term_again, onward_there, joint_is_passed, unsigned_again, negative_again, expr_again}

@@ -20,7 +20,7 @@ use Rattle.condition_syntax.specs.Fronts.{stands, blame}
 use Rattle.condition_syntax.specs.Expressions.{Read, is_within, number_of, word_by, digits_by, found, flow_by, step_by, named_by, name_by, factor_by, single_by, term_by, extra_term, onward, others_by, terms_by, expr_by}
 use Rattle.condition_syntax.specs.Grammar.{IsNumber, IsNameWord, SpellsFlow, SpellsTerm}
 use Rattle.condition_syntax.specs.Ends.{Taken, EndsFlow, EndsTerm}
-use Rattle.condition_syntax.specs.Refused.{IsInside, IsOutside, TermTooMany, NoName, NameMissing, NoDigits, RefusesName, in_word, in_flow, in_step, without_step, RefusesTerm, in_front, in_multiple, in_single, RefusesTerms, in_first, in_later, one_too_many, RefusesExpr, unsigned_refused, negative_refused}
+use Rattle.condition_syntax.specs.WrongTokens.{IsInside, IsOutside, TermTooMany, NoName, NameMissing, NoDigits, RefusesName, in_word, in_flow, in_step, without_step, RefusesTerm, in_front, in_multiple, in_single, RefusesTerms, in_first, in_later, one_too_many, RefusesExpr, unsigned_refused, negative_refused}
 use Rattle.condition_syntax.proofs.FrontLaws.{chosen, stands_is}
 use Rattle.condition_syntax.proofs.ExpressionsTaken.{number_taken, word_taken, flow_taken, term_taken, onward_is}
 

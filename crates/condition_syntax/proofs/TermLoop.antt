@@ -5,8 +5,8 @@ use Rattle.source_text.specs.Tokens.{Token, after}
 use Rattle.condition_syntax.specs.declared.conditions.Style.{Style}
 use Rattle.condition_syntax.specs.declared.expressions.ETerm.{ETerm}
 use Rattle.condition_syntax.specs.declared.faults.Fault.{Fault}
-use Rattle.condition_syntax.specs.declared.faults.Halt.{Halt}
-use Rattle.condition_syntax.specs.declared.faults.Halt.TheVariants.{Fault as Faulty, NoMemory}
+use Rattle.condition_syntax.specs.declared.faults.ReadStop.{ReadStop}
+use Rattle.condition_syntax.specs.declared.faults.ReadStop.TheVariants.{Fault as Faulty, NoMemory}
 use Rattle.condition_syntax.specs.Halts.{Halts}
 use Rattle.condition_syntax.specs.Expressions.{Read, term_by, extra_term, onward, terms_by}
 
@@ -37,7 +37,7 @@ module _ (style : Style) (i : ℕ) (sg : Bool) (front : List ETerm) (tokens : Li
       sym so_far ∙ one
 
   -- a term failed
-  pub terms_fail : (halt : Halt) → i < 16 → Halts halt (term_by style sg tokens) → Halts halt total
+  pub terms_fail : (halt : ReadStop) → i < 16 → Halts halt (term_by style sg tokens) → Halts halt total
   terms_fail NoMemory lt read = tt
   terms_fail (Faulty fault) lt read = terms_stop fault lt read
 

@@ -2,7 +2,7 @@
 use Rattle.std.proofs.Common.{◌≡◌, true, false, List, [], ◌∷◌, ◌++◌, ℕ, refl, ap}
 use Rattle.std.specs.Prelude.{codes, ◌||◌}
 use Rattle.condition_syntax.specs.Trees.{Condition, conjunction, disjunction}
-use Rattle.condition_syntax.specs.Printing.{is_conjunction, is_disjunction, bracketed_if, condition_text}
+use Rattle.condition_syntax.specs.CanonicalText.{is_conjunction, is_disjunction, bracketed_if, condition_text}
 
 pub is_conjunction-conjunction : (cs : List Condition) → is_conjunction (conjunction cs) ≡ true
 unfolding is_conjunction

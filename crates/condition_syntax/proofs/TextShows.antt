@@ -13,7 +13,7 @@ use Rattle.source_text.specs.Cutting.{tokens}
 use Rattle.source_text.specs.Spelling.{is_word}
 use Rattle.source_text.specs.Printed.{printed, IsPrintable, AreFromLine, IsApart}
 use Rattle.source_text.proofs.PrintLaws.{tokens_printed, tokens_space, tokens_printed_space}
-use Rattle.condition_syntax.specs.Printed.{EndsToken, Shows}
+use Rattle.condition_syntax.specs.CanonicalTokens.{EndsToken, Shows}
 
 -- ---- one token
 

@@ -1,13 +1,13 @@
 pub mod Words
 pub mod Fronts
 pub mod Halts
-pub mod Refusals
+pub mod RefusalRules
 pub mod Expressions
 pub mod Trees
 pub mod Conditions
 pub mod Grammar
 pub mod Ends
-pub mod Printing
-pub mod Printed
-pub mod Refused
+pub mod CanonicalText
+pub mod CanonicalTokens
+pub mod WrongTokens
 pub mod Limits

@@ -6,7 +6,7 @@ ghost use Rattle.condition_syntax.specs.Trees.{condition_of};
 ghost use Rattle.condition_syntax.specs.Conditions.{pending, side_begins, counted, rel_by, comparison_by, rows_by, sign_by, delay_by};
 
 use crate::conditions::{Cond, Style};
-use crate::faults::{Fault, Halt};
+use crate::faults::{Fault, ReadStop};
 use crate::fronts::{blame, is_keyword, stands};
 use crate::sums::expr;
 use crate::terms::{NAME_LIMIT, number_of};
@@ -82,7 +82,7 @@ pub(crate) fn comparison(
     cursor: &mut Cursor<'_>,
     style: Style,
     begun: &mut u32,
-) -> Result<Cond, Halt>
+) -> Result<Cond, ReadStop>
     ensures exact { GivesSeen condition_of result (pending begun.new cursor.new.tokens) (comparison_by style (pending begun.old cursor.old.tokens)) }
     ensures line { cursor.new.line ≡ cursor.old.line }
 {

@@ -5,7 +5,7 @@ use std::alloc::{AllocError, AllocFailed};
 pub enum Fault {
     /// A byte begins no token.
     WrongByte,
-    /// A number's denominator is 0, or the number passes 1,000,000 over 1,000.
+    /// A number's denominator is 0, or the number exceeds 1,000,000 over 1,000.
     Number,
     /// A term or a part of one is wanted.
     Term,
@@ -19,40 +19,40 @@ pub enum Fault {
 
 /// Why reading stopped.
 #[derive(Clone, Copy, Debug, PartialEq, Eq)]
-pub(crate) enum Halt {
+pub(crate) enum ReadStop {
     Fault(Fault),
     NoMemory,
 }
 
-impl From<Fault> for Halt {
+impl From<Fault> for ReadStop {
     ghost use Rattle.std.specs.Prelude.{◌≡◌};
-    ghost use Rattle.condition_syntax.specs.declared.faults.Halt.TheVariants.{Fault};
+    ghost use Rattle.condition_syntax.specs.declared.faults.ReadStop.TheVariants.{Fault};
 
     ghost from_gives = { λ fault halt. halt ≡ Fault fault };
 
-    fn from(fault: Fault) -> Halt {
-        Halt::Fault(fault)
+    fn from(fault: Fault) -> ReadStop {
+        ReadStop::Fault(fault)
     }
 }
 
-impl From<AllocError> for Halt {
+impl From<AllocError> for ReadStop {
     ghost use Rattle.std.specs.Prelude.{◌≡◌};
-    ghost use Rattle.condition_syntax.specs.declared.faults.Halt.TheVariants.{NoMemory};
+    ghost use Rattle.condition_syntax.specs.declared.faults.ReadStop.TheVariants.{NoMemory};
 
     ghost from_gives = { λ _ halt. halt ≡ NoMemory };
 
-    fn from(_fault: AllocError) -> Halt {
-        Halt::NoMemory
+    fn from(_fault: AllocError) -> ReadStop {
+        ReadStop::NoMemory
     }
 }
 
-impl<T: Drop> From<AllocFailed<T>> for Halt {
+impl<T: Drop> From<AllocFailed<T>> for ReadStop {
     ghost use Rattle.std.specs.Prelude.{◌≡◌};
-    ghost use Rattle.condition_syntax.specs.declared.faults.Halt.TheVariants.{NoMemory};
+    ghost use Rattle.condition_syntax.specs.declared.faults.ReadStop.TheVariants.{NoMemory};
 
     ghost from_gives = { λ _ halt. halt ≡ NoMemory };
 
-    fn from(_fault: AllocFailed<T>) -> Halt {
-        Halt::NoMemory
+    fn from(_fault: AllocFailed<T>) -> ReadStop {
+        ReadStop::NoMemory
     }
 }

@@ -4,7 +4,7 @@ ghost use Rattle.source_text.specs.Tokens.{Token};
 ghost use Rattle.condition_syntax.specs.Trees.{Condition};
 ghost use Rattle.condition_syntax.specs.Grammar.{SpellsExpr, SpellsCond};
 ghost use Rattle.condition_syntax.specs.Ends.{Taken, EndsExpr, EndsCond};
-ghost use Rattle.condition_syntax.specs.Refused.{RefusesExpr, RefusesCond};
+ghost use Rattle.condition_syntax.specs.WrongTokens.{RefusesExpr, RefusesCond};
 ghost use Rattle.condition_syntax.specs.declared.conditions.Style.{Style};
 ghost use Rattle.condition_syntax.specs.declared.expressions.ETerm.{ETerm};
 ghost use Rattle.condition_syntax.specs.declared.faults.Fault.{Fault};

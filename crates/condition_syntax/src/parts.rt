@@ -7,7 +7,7 @@ ghost use Rattle.condition_syntax.specs.Conditions.{pending, opening_of, chain_b
 
 use crate::comparisons::{comparison, delay, sign};
 use crate::conditions::{Cond, Style};
-use crate::faults::{Fault, Halt};
+use crate::faults::{Fault, ReadStop};
 use crate::fronts::{says, stands};
 use crate::openings::Opening;
 use source_text::{Cursor, Sign};
@@ -65,7 +65,7 @@ fn part(
     style: Style,
     room: u32,
     begun: &mut u32,
-) -> Result<Cond, Halt>
+) -> Result<Cond, ReadStop>
     ensures exact { GivesSeen condition_of result (pending begun.new cursor.new.tokens) (part_by style room (pending begun.old cursor.old.tokens)) }
     ensures line { cursor.new.line ≡ cursor.old.line }
 {
@@ -82,13 +82,13 @@ fn part(
         Opening::Comparison => comparison(alloc, cursor, style, begun),
         Opening::Not => {
             if room == 0 {
-                return Err(Halt::Fault(Fault::Depth));
+                return Err(ReadStop::Fault(Fault::Depth));
             }
             opposite(alloc, cursor, style, room - 1, begun)
         }
         Opening::Bracket => {
             if room == 0 {
-                return Err(Halt::Fault(Fault::Depth));
+                return Err(ReadStop::Fault(Fault::Depth));
             }
             bracketed(alloc, cursor, style, room - 1, begun)
         }
@@ -103,7 +103,7 @@ fn opposite(
     style: Style,
     room: u32,
     begun: &mut u32,
-) -> Result<Cond, Halt>
+) -> Result<Cond, ReadStop>
     ensures exact { GivesSeen condition_of result (pending begun.new cursor.new.tokens) (opposite_by (part_by style room) (pending begun.old cursor.old.tokens)) }
     ensures line { cursor.new.line ≡ cursor.old.line }
 {
@@ -120,7 +120,7 @@ fn bracketed(
     style: Style,
     room: u32,
     begun: &mut u32,
-) -> Result<Cond, Halt>
+) -> Result<Cond, ReadStop>
     ensures exact { GivesSeen condition_of result (pending begun.new cursor.new.tokens) (bracketed_by (joined_by (part_by style room)) (pending begun.old cursor.old.tokens)) }
     ensures line { cursor.new.line ≡ cursor.old.line }
 {
@@ -138,7 +138,7 @@ fn conjuncts(
     style: Style,
     room: u32,
     begun: &mut u32,
-) -> Result<Vec<Cond>, Halt>
+) -> Result<Vec<Cond>, ReadStop>
     ensures exact { GivesSeen (λ parts. map condition_of parts.items) result (pending begun.new cursor.new.tokens)
         (chain_by (codes "and") (part_by style room) (suc (length cursor.old.tokens)) (pending begun.old cursor.old.tokens)) }
     ensures line { cursor.new.line ≡ cursor.old.line }
@@ -163,7 +163,7 @@ fn conjunction(
     style: Style,
     room: u32,
     begun: &mut u32,
-) -> Result<Cond, Halt>
+) -> Result<Cond, ReadStop>
     ensures exact { GivesSeen condition_of result (pending begun.new cursor.new.tokens) (conjunction_by (part_by style room) (pending begun.old cursor.old.tokens)) }
     ensures line { cursor.new.line ≡ cursor.old.line }
 {
@@ -179,7 +179,7 @@ fn disjuncts(
     style: Style,
     room: u32,
     begun: &mut u32,
-) -> Result<Vec<Cond>, Halt>
+) -> Result<Vec<Cond>, ReadStop>
     ensures exact { GivesSeen (λ parts. map condition_of parts.items) result (pending begun.new cursor.new.tokens)
         (chain_by (codes "or") (conjunction_by (part_by style room)) (suc (length cursor.old.tokens)) (pending begun.old cursor.old.tokens)) }
     ensures line { cursor.new.line ≡ cursor.old.line }
@@ -204,7 +204,7 @@ pub(crate) fn condition(
     style: Style,
     room: u32,
     begun: &mut u32,
-) -> Result<Cond, Halt>
+) -> Result<Cond, ReadStop>
     ensures exact { GivesSeen condition_of result (pending begun.new cursor.new.tokens) (joined_by (part_by style room) (pending begun.old cursor.old.tokens)) }
     ensures line { cursor.new.line ≡ cursor.old.line }
 {

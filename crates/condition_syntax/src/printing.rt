@@ -5,8 +5,8 @@ ghost use Rattle.source_text.specs.Printed.{AreFromLine};
 ghost use Rattle.condition_syntax.specs.Trees.{condition_of, conjunction, disjunction};
 ghost use Rattle.condition_syntax.specs.declared.conditions.Style.{Style};
 ghost use Rattle.condition_syntax.specs.Grammar.{SpellsExpr, SpellsCond, SpellsJoined, SpellsPart};
-ghost use Rattle.condition_syntax.specs.Printed.{Prints};
-ghost use Rattle.condition_syntax.specs.Printing.{rel_text, number_text, expr_text, is_conjunction, is_disjunction, bracketed_if, condition_text};
+ghost use Rattle.condition_syntax.specs.CanonicalTokens.{Prints};
+ghost use Rattle.condition_syntax.specs.CanonicalText.{rel_text, number_text, expr_text, is_conjunction, is_disjunction, bracketed_if, condition_text};
 
 use crate::conditions::Cond;
 use crate::expressions::Expr;
@@ -48,7 +48,7 @@ fn put_delay(alloc: Global, out: &mut Vec<u8>, rows: Num) -> Result<(), AllocErr
     put_number(alloc, out, rows)
 }
 
-#[tactic(auto, unfolding(crate::specs::Printing::is_conjunction))]
+#[tactic(auto, unfolding(crate::specs::CanonicalText::is_conjunction))]
 fn is_conjunction(condition: &Cond) -> bool
     ensures { result ≡ is_conjunction (condition_of condition.now) }
 {
@@ -63,7 +63,7 @@ fn is_conjunction(condition: &Cond) -> bool
     }
 }
 
-#[tactic(auto, unfolding(crate::specs::Printing::is_disjunction))]
+#[tactic(auto, unfolding(crate::specs::CanonicalText::is_disjunction))]
 fn is_disjunction(condition: &Cond) -> bool
     ensures { result ≡ is_disjunction (condition_of condition.now) }
 {
@@ -80,7 +80,7 @@ fn is_disjunction(condition: &Cond) -> bool
 
 /// Appends the canonical text of the condition.
 #[cycle(texts)]
-#[tactic(auto, unfolding(crate::specs::Printing::condition_text))]
+#[tactic(auto, unfolding(crate::specs::CanonicalText::condition_text))]
 pub fn put_condition(alloc: Global, out: &mut Vec<u8>, condition: &Cond) -> Result<(), AllocError>
     ensures { OnOk result (out.new.items ≡ out.old.items ++ condition_text (condition_of condition.now)) }
 {

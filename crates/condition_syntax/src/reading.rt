@@ -1,8 +1,8 @@
 //! Expressions and conditions, read from the front of what is left of a line.
 ghost use Rattle.std.specs.Prelude.{◌≡◌, List, ◌++◌, IfOk, IsErrOf, Ok, Err};
 ghost use Rattle.source_text.specs.Tokens.{Token};
-ghost use Rattle.condition_syntax.specs.Refusals.{refusal, fault_of, refused, GivesRead, IsRefusedBy};
-ghost use Rattle.condition_syntax.specs.Refused.{RefusesExpr, RefusesCond};
+ghost use Rattle.condition_syntax.specs.RefusalRules.{refusal, fault_of, refused, GivesRead, IsRefusedBy};
+ghost use Rattle.condition_syntax.specs.WrongTokens.{RefusesExpr, RefusesCond};
 ghost use Rattle.whole.specs.declared.answers.Refusal.{Refusal};
 ghost use Rattle.condition_syntax.specs.Trees.{Condition, condition_of};
 ghost use Rattle.condition_syntax.specs.Expressions.{expr_by};
@@ -15,7 +15,7 @@ ghost use Rattle.condition_syntax.specs.declared.faults.Fault.{Fault};
 
 use crate::conditions::{Cond, Style};
 use crate::expressions::Expr;
-use crate::faults::{Fault, Halt};
+use crate::faults::{Fault, ReadStop};
 use crate::parts::condition;
 use crate::sums::expr;
 use source_text::Cursor;
@@ -58,12 +58,12 @@ pub fn refusal(style: Style, line: u32, fault: Fault) -> Refusal
     }
 }
 
-fn read_fault(style: Style, line: u32, halt: Halt) -> ReadFault
+fn read_fault(style: Style, line: u32, halt: ReadStop) -> ReadFault
     ensures { result ≡ fault_of style line halt }
 {
     match halt {
-        Halt::Fault(fault) => ReadFault::Refused(refusal(style, line, fault)),
-        Halt::NoMemory => ReadFault::NoMemory,
+        ReadStop::Fault(fault) => ReadFault::Refused(refusal(style, line, fault)),
+        ReadStop::NoMemory => ReadFault::NoMemory,
     }
 }
 

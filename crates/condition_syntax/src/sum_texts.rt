@@ -1,7 +1,7 @@
 //! The canonical text of numbers, names and expressions, at the end of a text.
 ghost use Rattle.std.specs.Prelude.{◌≡◌, ◌++◌, OnOk, flat_map, Some};
 ghost use Rattle.std.specs.Fmt.{decimal};
-ghost use Rattle.condition_syntax.specs.Printing.{denominator_text, number_text, mark_text, name_text, is_unit, factor_text, unsigned_text, is_negative, first_text, later_text, expr_text};
+ghost use Rattle.condition_syntax.specs.CanonicalText.{denominator_text, number_text, mark_text, name_text, is_unit, factor_text, unsigned_text, is_negative, first_text, later_text, expr_text};
 
 use crate::expressions::{ETerm, Expr, Name};
 use std::alloc::{AllocError, Global};
@@ -25,7 +25,7 @@ fn put_denominator(alloc: Global, out: &mut Vec<u8>, den: u128) -> Result<(), Al
 }
 
 /// Appends the canonical text of the number without its sign.
-#[tactic(auto, unfolding(crate::specs::Printing::number_text))]
+#[tactic(auto, unfolding(crate::specs::CanonicalText::number_text))]
 pub fn put_number(alloc: Global, out: &mut Vec<u8>, number: Num) -> Result<(), AllocError>
     ensures { OnOk result (out.new.items ≡ out.old.items ++ number_text number) }
 {
@@ -51,7 +51,7 @@ fn put_mark(
     }
 }
 
-#[tactic(auto, unfolding(crate::specs::Printing::name_text))]
+#[tactic(auto, unfolding(crate::specs::CanonicalText::name_text))]
 fn put_name(alloc: Global, out: &mut Vec<u8>, name: &Name) -> Result<(), AllocError>
     ensures { OnOk result (out.new.items ≡ out.old.items ++ name_text name.now) }
 {
@@ -89,7 +89,7 @@ fn put_multiple(alloc: Global, out: &mut Vec<u8>, coef: Num, name: &Name) -> Res
     put_name(alloc, out, name)
 }
 
-#[tactic(auto, unfolding(crate::specs::Printing::first_text))]
+#[tactic(auto, unfolding(crate::specs::CanonicalText::first_text))]
 fn put_first(alloc: Global, out: &mut Vec<u8>, term: &ETerm) -> Result<(), AllocError>
     ensures { OnOk result (out.new.items ≡ out.old.items ++ first_text term.now) }
 {
@@ -99,7 +99,7 @@ fn put_first(alloc: Global, out: &mut Vec<u8>, term: &ETerm) -> Result<(), Alloc
     put_unsigned(alloc, out, term)
 }
 
-#[tactic(auto, unfolding(crate::specs::Printing::later_text))]
+#[tactic(auto, unfolding(crate::specs::CanonicalText::later_text))]
 fn put_later(alloc: Global, out: &mut Vec<u8>, term: &ETerm) -> Result<(), AllocError>
     ensures { OnOk result (out.new.items ≡ out.old.items ++ later_text term.now) }
 {
@@ -121,7 +121,7 @@ fn put_others(alloc: Global, out: &mut Vec<u8>, terms: &[ETerm]) -> Result<(), A
 }
 
 /// Appends the canonical text of the expression.
-#[tactic(auto, unfolding(crate::specs::Printing::expr_text))]
+#[tactic(auto, unfolding(crate::specs::CanonicalText::expr_text))]
 pub fn put_expr(alloc: Global, out: &mut Vec<u8>, expr: &Expr) -> Result<(), AllocError>
     ensures { OnOk result (out.new.items ≡ out.old.items ++ expr_text expr.now.terms) }
 {

@@ -5,7 +5,7 @@ ghost use Rattle.condition_syntax.specs.Expressions.{onward, terms_by, expr_by};
 
 use crate::conditions::Style;
 use crate::expressions::{ETerm, Expr};
-use crate::faults::Halt;
+use crate::faults::ReadStop;
 use crate::fronts::stands;
 use crate::terms::{extra_term, term};
 use source_text::{Cursor, Sign};
@@ -35,7 +35,7 @@ fn terms(
     cursor: &mut Cursor<'_>,
     style: Style,
     mut negative: bool,
-) -> Result<Items<ETerm>, Halt>
+) -> Result<Items<ETerm>, ReadStop>
     ensures exact { GivesRest result cursor.new.tokens (terms_by style 16 negative cursor.old.tokens) }
     ensures line { cursor.new.line ≡ cursor.old.line }
 {
@@ -51,12 +51,12 @@ fn terms(
             }
         }
     }
-    Err(Halt::Fault(extra_term(cursor)))
+    Err(ReadStop::Fault(extra_term(cursor)))
 }
 
 /// An expression.
 #[tactic(auto, unfolding(crate::specs::Expressions::expr_by))]
-pub(crate) fn expr(alloc: Global, cursor: &mut Cursor<'_>, style: Style) -> Result<Expr, Halt>
+pub(crate) fn expr(alloc: Global, cursor: &mut Cursor<'_>, style: Style) -> Result<Expr, ReadStop>
     ensures exact { GivesSeen (λ expr. expr.terms) result cursor.new.tokens (expr_by style cursor.old.tokens) }
     ensures line { cursor.new.line ≡ cursor.old.line }
 {

@@ -8,7 +8,7 @@ ghost use Rattle.condition_syntax.specs.Expressions.{number_of, word_by, digits_
 
 use crate::conditions::Style;
 use crate::expressions::{ETerm, Name};
-use crate::faults::{Fault, Halt};
+use crate::faults::{Fault, ReadStop};
 use crate::fronts::{blame, is_keyword, stands};
 use source_text::{Cursor, Lexeme, Sign};
 use sqlite_items::Items;
@@ -19,7 +19,7 @@ use weighing::Num;
 pub const NAME_LIMIT: usize = 16;
 
 /// The number that a token writes, over 1 where it has no denominator. `Err` comes exactly where the denominator is 0 or
-/// the number passes 1,000,000 over 1,000.
+/// the number exceeds 1,000,000 over 1,000.
 #[tactic(auto, unfolding(crate::specs::Expressions::number_of))]
 pub fn number_of(num: u32, den: Option<u32>) -> Result<Num, Fault>
     ensures exact { result ≡ number_of num den }
@@ -37,7 +37,7 @@ pub fn number_of(num: u32, den: Option<u32>) -> Result<Num, Fault>
 }
 
 /// The number with a sign before it.
-#[tactic(auto, using(whole::proofs::Passing::signed))]
+#[tactic(auto, using(whole::proofs::Overflow::signed))]
 pub fn signed(negative: bool, number: Num) -> Num
     requires { IsNum number }
     ensures { result ≡ signed negative number }
@@ -126,7 +126,12 @@ fn step(cursor: &mut Cursor<'_>, name: &[u8]) -> Result<Option<u32>, Fault>
 
 /// The flow and the step of a name, which questions alone have.
 #[tactic(auto, unfolding(crate::specs::Expressions::named_by))]
-fn named(alloc: Global, cursor: &mut Cursor<'_>, style: Style, word: &[u8]) -> Result<Name, Halt>
+fn named(
+    alloc: Global,
+    cursor: &mut Cursor<'_>,
+    style: Style,
+    word: &[u8],
+) -> Result<Name, ReadStop>
     ensures exact { GivesRest result cursor.new.tokens (named_by style word.now cursor.old.tokens) }
     ensures line { cursor.new.line ≡ cursor.old.line }
 {
@@ -149,7 +154,7 @@ fn named(alloc: Global, cursor: &mut Cursor<'_>, style: Style, word: &[u8]) -> R
 }
 
 #[tactic(auto, unfolding(crate::specs::Expressions::name_by))]
-fn name(alloc: Global, cursor: &mut Cursor<'_>, style: Style) -> Result<Name, Halt>
+fn name(alloc: Global, cursor: &mut Cursor<'_>, style: Style) -> Result<Name, ReadStop>
     ensures exact { GivesRest result cursor.new.tokens (name_by style cursor.old.tokens) }
     ensures line { cursor.new.line ≡ cursor.old.line }
 {
@@ -159,7 +164,12 @@ fn name(alloc: Global, cursor: &mut Cursor<'_>, style: Style) -> Result<Name, Ha
 
 /// This multiple of a name, or this constant where no `*` stands.
 #[tactic(auto, unfolding(crate::specs::Expressions::factor_by))]
-fn factor(alloc: Global, cursor: &mut Cursor<'_>, style: Style, coef: Num) -> Result<ETerm, Halt>
+fn factor(
+    alloc: Global,
+    cursor: &mut Cursor<'_>,
+    style: Style,
+    coef: Num,
+) -> Result<ETerm, ReadStop>
     ensures exact { GivesRest result cursor.new.tokens (factor_by style coef cursor.old.tokens) }
     ensures line { cursor.new.line ≡ cursor.old.line }
 {
@@ -181,7 +191,7 @@ fn single(
     cursor: &mut Cursor<'_>,
     style: Style,
     negative: bool,
-) -> Result<ETerm, Halt>
+) -> Result<ETerm, ReadStop>
     ensures exact { GivesRest result cursor.new.tokens (single_by style negative cursor.old.tokens) }
     ensures line { cursor.new.line ≡ cursor.old.line }
 {
@@ -199,7 +209,7 @@ pub(crate) fn term(
     cursor: &mut Cursor<'_>,
     style: Style,
     negative: bool,
-) -> Result<ETerm, Halt>
+) -> Result<ETerm, ReadStop>
     ensures exact { GivesRest result cursor.new.tokens (term_by style negative cursor.old.tokens) }
     ensures line { cursor.new.line ≡ cursor.old.line }
 {

@@ -22,7 +22,7 @@ fn one(alloc: Global, atom: u32, positive: bool) -> Result<Lits, NoMemory>
     Ok(Lits::from_vec(Vec::from_slice(alloc, &[Lit { atom, positive }])?))
 }
 
-#[tactic(auto, using(whole::proofs::Passing::signed))]
+#[tactic(auto, using(whole::proofs::Overflow::signed))]
 fn problem(alloc: Global, num: i128) -> Result<Clauses, NoMemory>
     ensures { IfOk result (λ c. c ≡ problem false num) }
 {

@@ -19,14 +19,14 @@ pub meeting_kept : (limit v : ℕ) (x y : DeltaValue) (far fast : ℚ) (s : Stuc
 meeting_kept limit v x y far fast s real inf e f quotient meeting = by meeting.operation
   where
     by : IsStuckDifference limit v y.real x.real s ⊎ IsStuckDifference limit v x.inf y.inf s ⊎ IsStuckQuotient limit v (difference y.real x.real) (difference x.inf y.inf) s → ⊥
-    by (inl h) = real h.passes
-    by (inr (inl h)) = inf h.passes
+    by (inl h) = real h.overflows
+    by (inr (inl h)) = inf h.overflows
     by (inr (inr h)) = quotient (subst (λ d. IsStuckQuotient limit v far d s) (sym f) (subst (λ n. IsStuckQuotient limit v n (difference x.inf y.inf) s) (sym e) h))
 
 -- the inverse that was formed is the one
 pub quotient_kept : (limit v : ℕ) (n d i : ℚ) (s : Stuck) → (d ≡ whole (pos 0) → ⊥) → i *ℚ d ≡ whole (pos 1) → (Exceeds limit (n *ℚ i) → ⊥) → IsStuckQuotient limit v n d s → ⊥
 quotient_kept limit v n d i s some inverts kept h =
-    kept (subst (λ j. Exceeds limit (n *ℚ j)) (cancel_by_inverse h.inverse i d i inverts (h.inverts ∙ sym inverts)) h.passes)
+    kept (subst (λ j. Exceeds limit (n *ℚ j)) (cancel_by_inverse h.inverse i d i inverts (h.inverts ∙ sym inverts)) h.overflows)
 
 pub scaling_kept : (ps : List Ratio) (l : ℕ) (s : Stuck) → IsScale ps l → (IsStuckMultiple ps s → ⊥) → (IsStuckNumerator ps l s → ⊥) → IsStuckScaling ps s → ⊥
 scaling_kept ps l s scale multiple numerator (inl h) = multiple h

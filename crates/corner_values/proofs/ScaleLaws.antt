@@ -75,7 +75,7 @@ multiples_fit-more ps n p l fit there scale small s j q m within at is wide = by
         let same : p ≡ q = some_injective p q _ there (subst (λ k. slice_get ps k ≡ Some q) e at) in
         let scales : l ≡ m = IsScale_unique (take n ps) l m scale (subst (λ k. IsScale (take k ps) m) e is) in
         let fits : m / gcd_of m q.den * q.den < 2 ^ 127 = subst (λ r. m / gcd_of m r.den * r.den < 2 ^ 127) same (subst (λ k. k / gcd_of k p.den * p.den < 2 ^ 127) scales small) in
-        absurd (omega (arith, fits, wide.passes))
+        absurd (omega (arith, fits, wide.overflows))
 
     by : (j < n) ⊎ (j ≡ n) → ⊥
     by (inl less) = fit s j q m less at is wide
@@ -105,7 +105,7 @@ numerators_fit-more ps l n p fit there small s j q within at wide = by (last_or_
     at_last e =
         let same : p ≡ q = some_injective p q _ there (subst (λ k. slice_get ps k ≡ Some q) e at) in
         let fits : unsigned_abs (numerator_over l q) < 2 ^ 127 = subst (λ r. unsigned_abs (numerator_over l r) < 2 ^ 127) same small in
-        absurd (omega (arith, fits, wide.passes))
+        absurd (omega (arith, fits, wide.overflows))
 
     by : (j < n) ⊎ (j ≡ n) → ⊥
     by (inl less) = fit s j q less at wide

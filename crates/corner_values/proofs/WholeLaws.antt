@@ -4,18 +4,18 @@ use Rattle.std.specs.Prelude.{int_div}
 use Rattle.std.proofs.lemmas.Bool.{leb-true}
 use Rattle.std.proofs.lemmas.Int.{ints}
 use Rattle.std.proofs.Math.Nat.{pos_of_dvd_of_pos, mul-pos, dvd-mul_right, dvd-mul_left}
-use Rattle.whole.specs.Numbers.{IsWithin, passes, whole, fma, IsLcm, gcd_of, lcm_of}
-use Rattle.whole.proofs.Passing.{whole_some, fma_some}
+use Rattle.whole.specs.Numbers.{IsWithin, overflows, whole, fma, IsLcm, gcd_of, lcm_of}
+use Rattle.whole.proofs.Overflow.{whole_some, fma_some}
 use Rattle.whole.proofs.Divisors.{IsLcm-lcm_of}
 
 pub above_zero : (a : ℤ) → pos 1 ≤ℤ a → 0 < unsigned_abs a
 above_zero a h = omega (arith, ints)
 
--- what isn't kept passes
+-- what isn't kept overflows
 pub beyond : (z : ℤ) → None ≡ whole z → 2 ^ 127 ≤ unsigned_abs z
-beyond z e = by (passes z) refl e
+beyond z e = by (overflows z) refl e
   where
-    by : (t : Bool) → passes z ≡ t → None ≡ cond t None (Some z) → 2 ^ 127 ≤ unsigned_abs z
+    by : (t : Bool) → overflows z ≡ t → None ≡ cond t None (Some z) → 2 ^ 127 ≤ unsigned_abs z
     by true p q = leb-true (2 ^ 127) (unsigned_abs z) p
     by false p q = absurd (cc)
 
@@ -59,9 +59,9 @@ product_kept n t z e =
     (kept.0 ∙ zero_more (n *ℤ t), subst IsWithin (sym kept.0) kept.1)
 
 pub product_wide : (n t : ℤ) → None ≡ fma (pos 0) n t → 2 ^ 127 ≤ unsigned_abs (n *ℤ t)
-product_wide n t e = by (passes (n *ℤ t)) refl e
+product_wide n t e = by (overflows (n *ℤ t)) refl e
   where
-    by : (b : Bool) → passes (n *ℤ t) ≡ b → None ≡ cond b None (whole (pos 0 +ℤ n *ℤ t)) → 2 ^ 127 ≤ unsigned_abs (n *ℤ t)
+    by : (b : Bool) → overflows (n *ℤ t) ≡ b → None ≡ cond b None (whole (pos 0 +ℤ n *ℤ t)) → 2 ^ 127 ≤ unsigned_abs (n *ℤ t)
     by true p q = leb-true (2 ^ 127) (unsigned_abs (n *ℤ t)) p
     by false p q = subst (λ z. 2 ^ 127 ≤ unsigned_abs z) (zero_more (n *ℤ t)) (beyond (pos 0 +ℤ n *ℤ t) q)
 

@@ -20,14 +20,14 @@ use Rattle.corner_values.specs.Values.{value_at}
 -- the sum of y and the opposite of x
 pub record IsStuckDifference (limit v : ℕ) (y x : ℚ) (stuck : Stuck) : Type 0 where
   pub operation : IsOperation Epsilon v 0 Sum y (neg_ℚ x) stuck
-  pub passes : SumIsWide limit y (neg_ℚ x)
+  pub overflows : SumIsWide limit y (neg_ℚ x)
 
 -- the product of n and the inverse of d
 pub record IsStuckQuotient (limit v : ℕ) (n d : ℚ) (stuck : Stuck) : Type 0 where
   pub inverse : ℚ
   pub inverts : inverse *ℚ d ≡ whole (pos 1)
   pub operation : IsOperation Epsilon v 0 Product n inverse stuck
-  pub passes : Exceeds limit (n *ℚ inverse)
+  pub overflows : Exceeds limit (n *ℚ inverse)
 
 -- one of the two differences of numbers that approach each other, or their quotient
 pub record IsStuckMeeting (limit v : ℕ) (x y : DeltaValue) (stuck : Stuck) : Type 0 where
@@ -55,12 +55,12 @@ pub record IsStuckEpsilon {F : Type 0} (limit : ℕ) (c : Corner F) (stuck : Stu
 -- the product of its infinitesimal part and epsilon
 pub record IsStuckProduct (limit j : ℕ) (x : DeltaValue) (epsilon : ℚ) (stuck : Stuck) : Type 0 where
   pub operation : IsOperation Epsilon j 0 Product x.inf epsilon stuck
-  pub passes : Exceeds limit (x.inf *ℚ epsilon)
+  pub overflows : Exceeds limit (x.inf *ℚ epsilon)
 
 -- the sum of its real part and that product
 pub record IsStuckSum (limit j : ℕ) (x : DeltaValue) (epsilon : ℚ) (stuck : Stuck) : Type 0 where
   pub operation : IsOperation Epsilon j 0 Sum x.real (x.inf *ℚ epsilon) stuck
-  pub passes : SumIsWide limit x.real (x.inf *ℚ epsilon)
+  pub overflows : SumIsWide limit x.real (x.inf *ℚ epsilon)
 
 abbrev pub IsStuckAt : ℕ → ℕ → DeltaValue → ℚ → Stuck → Type 0
 IsStuckAt limit j x epsilon stuck = IsStuckProduct limit j x epsilon stuck ⊎ IsStuckSum limit j x epsilon stuck
@@ -85,12 +85,12 @@ IsWholeProduct j x y stuck = IsOperation Scale j 0 Product (whole x) (whole y) s
 -- the scale over its greatest common divisor with the denominator, times the denominator
 pub record IsWideMultiple (j scale den : ℕ) (stuck : Stuck) : Type 0 where
   pub operation : IsWholeProduct j (pos (scale / gcd_of scale den)) (pos den) stuck
-  pub passes : 2 ^ 127 ≤ scale / gcd_of scale den * den
+  pub overflows : 2 ^ 127 ≤ scale / gcd_of scale den * den
 
 -- the numerator times the scale over the denominator
 pub record IsWideNumerator (j scale : ℕ) (p : Ratio) (stuck : Stuck) : Type 0 where
   pub operation : IsWholeProduct j p.num (pos (scale / p.den)) stuck
-  pub passes : 2 ^ 127 ≤ unsigned_abs (numerator_over scale p)
+  pub overflows : 2 ^ 127 ≤ unsigned_abs (numerator_over scale p)
 
 -- the scale is that of the columns before this one
 pub record IsStuckMultiple (ratios : List Ratio) (stuck : Stuck) : Type 0 where

@@ -1,4 +1,4 @@
-//! Which number may be put in for the infinitesimal, so that no value passes a limit?
+//! Which number may be put in for the infinitesimal, so that no value exceeds a limit?
 
 ghost use Rattle.std.specs.Prelude.{◌<◌, Bool, true, false, IfOk, OnOk, IfErr};
 ghost use Rattle.whole.specs.declared.answers.Stuck.{Stuck as StuckAt};

@@ -15,7 +15,7 @@ use std::alloc::Global;
 use tableau::PivotFault;
 use whole::{Op, Pair, Place, Stuck, checked_fma, gcd, lcm};
 
-/// Some numbers over their least common denominator. `Stuck` names a product that passes `2^127 - 1`: one by which the
+/// Some numbers over their least common denominator. `Stuck` names a product that exceeds `2^127 - 1`: one by which the
 /// denominator is formed, or a numerator.
 pub(crate) fn over_scale<F: OrderedField>(
     alloc: Global,
@@ -35,7 +35,7 @@ pub(crate) fn over_scale<F: OrderedField>(
 }
 
 // The numbers over this one.
-#[tactic(auto, using(whole::proofs::Passing::signed))]
+#[tactic(auto, using(whole::proofs::Overflow::signed))]
 fn over_number<F: OrderedField>(
     alloc: Global,
     numbers: &[F],
@@ -57,7 +57,7 @@ fn over_number<F: OrderedField>(
     }
 }
 
-// The least common denominator of some numbers. `Stuck` names the product by which that of the first of them passes
+// The least common denominator of some numbers. `Stuck` names the product by which that of the first of them overflows
 // `2^127 - 1`.
 fn scale<F: OrderedField>(numbers: &[F]) -> Result<i128, Stuck>
     requires { length numbers.now < 2 ^ 32 }
@@ -78,7 +78,7 @@ fn scale<F: OrderedField>(numbers: &[F]) -> Result<i128, Stuck>
 }
 
 // The least common multiple of two numbers.
-#[tactic(auto, using(whole::proofs::Passing::signed))]
+#[tactic(auto, using(whole::proofs::Overflow::signed))]
 fn multiple(column: u32, scale: i128, den: i128) -> Result<i128, Stuck>
     requires scale { pos 1 ≤ℤ scale }
     requires den { pos 1 ≤ℤ den }
@@ -94,7 +94,7 @@ fn multiple(column: u32, scale: i128, den: i128) -> Result<i128, Stuck>
     }
 }
 
-// Each numerator over the denominator `scale`. `Stuck` names a product that passes `2^127 - 1`.
+// Each numerator over the denominator `scale`. `Stuck` names a product that exceeds `2^127 - 1`.
 fn numerators<F: OrderedField>(
     alloc: Global,
     numbers: &[F],
@@ -118,7 +118,7 @@ fn numerators<F: OrderedField>(
 }
 
 // The numerator over a multiple of its denominator.
-#[tactic(auto, using(whole::proofs::Passing::signed))]
+#[tactic(auto, using(whole::proofs::Overflow::signed))]
 fn numerator<F: OrderedField>(column: u32, number: F, scale: i128) -> Result<i128, Stuck>
     requires { pos 1 ≤ℤ scale }
     ensures exact { IfOk result (λ n. n ≡ numerator_over (unsigned_abs scale) (F.pair number)) }
@@ -135,7 +135,7 @@ fn numerator<F: OrderedField>(column: u32, number: F, scale: i128) -> Result<i12
 }
 
 // The quotient of two numbers.
-#[tactic(auto, using(whole::proofs::Passing::signed))]
+#[tactic(auto, using(whole::proofs::Overflow::signed))]
 fn divided(n: i128, divisor: i128) -> i128
     requires { pos 1 ≤ℤ divisor }
     ensures { result ≡ int_div n divisor }
@@ -144,7 +144,7 @@ fn divided(n: i128, divisor: i128) -> i128
 }
 
 // The product of two whole numbers, for a column.
-#[tactic(auto, using(whole::proofs::Passing::signed))]
+#[tactic(auto, using(whole::proofs::Overflow::signed))]
 fn product_of(column: u32, left: i128, right: i128) -> Stuck
     ensures { IsWholeProduct column left right result }
 {

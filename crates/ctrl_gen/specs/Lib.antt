@@ -1,3 +1,3 @@
 pub mod Draws
 pub mod Problems
-pub mod Seen
+pub mod Views

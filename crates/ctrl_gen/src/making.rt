@@ -3,7 +3,7 @@ ghost use Rattle.ctrl_syntax.specs.Sections.{sections_of as controller_sections}
 ghost use Rattle.question_syntax.specs.Sections.{sections_of as question_sections};
 ghost use Rattle.ctrl_gen.specs.Draws.{IsDrawn};
 ghost use Rattle.ctrl_gen.specs.Problems.{controller_of, question_of, setting_of, drawn_problem, controller_text, question_text};
-ghost use Rattle.ctrl_gen.specs.Seen.{seen};
+ghost use Rattle.ctrl_gen.specs.Views.{seen};
 
 use crate::controllers::{
     drawn_rules, drawn_states, name_term, otherwise, over, state_name, sum_of_one,

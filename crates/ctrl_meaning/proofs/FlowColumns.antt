@@ -28,7 +28,7 @@ use Rattle.ctrl_meaning.specs.Limits.{HasShape, IsControlled}
 use Rattle.ctrl_meaning.specs.Opening.{declared_state, opening_row, range_claims}
 use Rattle.ctrl_meaning.specs.Sends.{send_claim}
 use Rattle.ctrl_meaning.specs.Steps.{sending, set_claim, set_of, stepping}
-use Rattle.ctrl_meaning.specs.declared.readings.Reading.{Reading}
+use Rattle.ctrl_meaning.specs.declared.readings.ReadPoint.{ReadPoint}
 use Rattle.path_server.proofs.RowColumns.{map-flat_map}
 use Rattle.path_server.proofs.AdmissionLaws.{all_below, all_flat_map}
 use Rattle.claim_values.proofs.ClaimLists.{conjunction_leaves, conjunction_with, each_flows_made, flows_of_each, joined_made, maps_agree, maps_made}
@@ -45,10 +45,10 @@ rewritten term cs = map (with_terms (made term)) cs
 abbrev remaking : {T : Type 0} → (ℤ → Subject → T) → Compared Part → Compared T
 remaking term c = record { terms = map (made term) c.terms; rel = c.rel }
 
-guard_made : {T : Type 0} (term : ℤ → Subject → T) (c : Controller) (at : Reading) (k : ℕ) → with_terms (made term) (guard_claim part c at k) ≡ guard_claim term c at k
+guard_made : {T : Type 0} (term : ℤ → Subject → T) (c : Controller) (at : ReadPoint) (k : ℕ) → with_terms (made term) (guard_claim part c at k) ≡ guard_claim term c at k
 guard_made term c at k = test_made term at (test_of (rule_of c k).guard)
 
-fires_made : {T : Type 0} (term : ℤ → Subject → T) (c : Controller) (at : Reading) (k : ℕ) → with_terms (made term) (fires_claim part c at k) ≡ fires_claim term c at k
+fires_made : {T : Type 0} (term : ℤ → Subject → T) (c : Controller) (at : ReadPoint) (k : ℕ) → with_terms (made term) (fires_claim part c at k) ≡ fires_claim term c at k
 fires_made term c at k =
     conjunction_with (remaking term) (map (λ j. opposite (guard_claim part c at j)) (below k) ++ guard_claim part c at k ∷ [])
     ∙ ap conjunction
@@ -56,13 +56,13 @@ fires_made term c at k =
     (maps_made (with_terms (made term)) (λ j. opposite (guard_claim part c at j)) (λ j. opposite (guard_claim term c at j)) (λ j. ap opposite (guard_made term c at j)) (below k))
     (ap (λ d. d ∷ []) (guard_made term c at k)))
 
-sets_made : {T : Type 0} (term : ℤ → Subject → T) (c : Controller) (at : Reading) (k : ℕ) → with_terms (made term) (sets_claim part c at k) ≡ sets_claim term c at k
+sets_made : {T : Type 0} (term : ℤ → Subject → T) (c : Controller) (at : ReadPoint) (k : ℕ) → with_terms (made term) (sets_claim part c at k) ≡ sets_claim term c at k
 sets_made term c at k =
     conjunction_with (remaking term) (map (λ j. set_claim part at j (set_of c k j)) (below (length c.states)))
     ∙ ap conjunction
     (maps_made (with_terms (made term)) (λ j. set_claim part at j (set_of c k j)) (λ j. set_claim term at j (set_of c k j)) (λ j. set_made term at j (set_of c k j)) (below (length c.states)))
 
-rule_made : {T : Type 0} (term : ℤ → Subject → T) (c : Controller) (at : Reading) (k : ℕ) → with_terms (made term) (rule_claim part c at k) ≡ rule_claim term c at k
+rule_made : {T : Type 0} (term : ℤ → Subject → T) (c : Controller) (at : ReadPoint) (k : ℕ) → with_terms (made term) (rule_claim part c at k) ≡ rule_claim term c at k
 rule_made term c at k =
     ap (λ d. any_of (opposite d) (any_of (with_terms (made term) (sets_claim part c at k)) end_of_any)) (fires_made term c at k)
     ∙ ap (λ d. any_of (opposite (fires_claim term c at k)) (any_of d end_of_any)) (sets_made term c at k)
@@ -95,10 +95,10 @@ flows_made term free c s i =
 
 -- ---- over the shape
 
-lin_sources : (s : Shape) (at : Reading) (n : ℕ) (lin : Lin) → state_count s at.states ≡ n → IsLin n lin → AreSources s at lin.terms
+lin_sources : (s : Shape) (at : ReadPoint) (n : ℕ) (lin : Lin) → state_count s at.states ≡ n → IsLin n lin → AreSources s at lin.terms
 lin_sources s at n lin same is = λ k d inside. subst (λ m. IsSource m (let t : LinTerm = get_or lin.terms k d in t.of)) (sym same) (is.sources k d inside)
 
-test_in : (s : Shape) (at : Reading) (n : ℕ) (t : Test) → state_count s at.states ≡ n → EachExpr (IsLin n) t → EachLeaf (LeafIn s at) t
+test_in : (s : Shape) (at : ReadPoint) (n : ℕ) (t : Test) → state_count s at.states ≡ n → EachExpr (IsLin n) t → EachLeaf (LeafIn s at) t
 test_in s at n always same is = tt
 test_in s at n never same is = tt
 test_in s at n (leaf (compares left rel right)) same is = (lin_sources s at n left same is.0, lin_sources s at n right same is.1)
@@ -109,22 +109,22 @@ test_in s at n (all_of t rest) same is = (test_in s at n t same is.0, test_in s 
 test_in s at n end_of_any same is = tt
 test_in s at n (any_of t rest) same is = (test_in s at n t same is.0, test_in s at n rest same is.1)
 
-option_in : (s : Shape) (at : Reading) (n : ℕ) (o : Option Lin) → state_count s at.states ≡ n → OptionalLin (IsLin n) o → OptionIn s at o
+option_in : (s : Shape) (at : ReadPoint) (n : ℕ) (o : Option Lin) → state_count s at.states ≡ n → OptionalLin (IsLin n) o → OptionIn s at o
 option_in s at n None same is = tt
 option_in s at n (Some lin) same is = lin_sources s at n lin same is
 
 -- what is read at a controlled row of the shape
-record IsOfShape (c : Controller) (s : Shape) (at : Reading) : Type 0 where
+record IsOfShape (c : Controller) (s : Shape) (at : ReadPoint) : Type 0 where
   reading_in : IsReadingOf s at
   states_here : state_count s at.row ≡ length c.states
   states_read : state_count s at.states ≡ length c.states
 
-guard_over : (c : Controller) (s : Shape) (at : Reading) (k : ℕ) → IsController c → IsOfShape c s at → k < length c.rules → IsOver s (guard_claim part c at k)
+guard_over : (c : Controller) (s : Shape) (at : ReadPoint) (k : ℕ) → IsController c → IsOfShape c s at → k < length c.rules → IsOver s (guard_claim part c at k)
 guard_over c s at k is of inside =
     test_over s at (test_of (rule_of c k).guard) of.reading_in
     (test_in s at (length c.states) (test_of (rule_of c k).guard) of.states_read (is.each_lin.rules k no_rule inside).guard)
 
-fires_over : (c : Controller) (s : Shape) (at : Reading) (k : ℕ) → IsController c → IsOfShape c s at → k < length c.rules → IsOver s (fires_claim part c at k)
+fires_over : (c : Controller) (s : Shape) (at : ReadPoint) (k : ℕ) → IsController c → IsOfShape c s at → k < length c.rules → IsOver s (fires_claim part c at k)
 fires_over c s at k is of inside =
     conjunction_leaves _ (map (λ j. opposite (guard_claim part c at j)) (below k) ++ guard_claim part c at k ∷ [])
     (All-append (IsOver s) (map (λ j. opposite (guard_claim part c at j)) (below k)) (guard_claim part c at k ∷ [])
@@ -132,7 +132,7 @@ fires_over c s at k is of inside =
     (all_below (λ j. IsOver s (opposite (guard_claim part c at j))) k (λ j less. guard_over c s at j is of (omega arith))))
     (All-cons (IsOver s) (guard_claim part c at k) [] (guard_over c s at k is of inside) (All-nil (IsOver s))))
 
-sets_over : (c : Controller) (s : Shape) (at : Reading) (k : ℕ) → IsController c → IsOfShape c s at → k < length c.rules → IsOver s (sets_claim part c at k)
+sets_over : (c : Controller) (s : Shape) (at : ReadPoint) (k : ℕ) → IsController c → IsOfShape c s at → k < length c.rules → IsOver s (sets_claim part c at k)
 sets_over c s at k is of inside =
     conjunction_leaves _ (map (λ j. set_claim part at j (set_of c k j)) (below (length c.states)))
     (All-map (IsOver s) (λ j. set_claim part at j (set_of c k j)) (below (length c.states))
@@ -146,13 +146,13 @@ sets_over c s at k is of inside =
         set_over s at j (set_of c k j) of.reading_in (omega arith) (omega arith)
         (option_in s at (length c.states) (set_of c k j) of.states_read ((is.each_lin.rules k no_rule inside).sets j None places))
 
-step_over : (c : Controller) (s : Shape) (at : Reading) → IsController c → IsOfShape c s at → All (IsOver s) (step_claims part c at)
+step_over : (c : Controller) (s : Shape) (at : ReadPoint) → IsController c → IsOfShape c s at → All (IsOver s) (step_claims part c at)
 step_over c s at is of =
     All-map (IsOver s) (rule_claim part c at) (below (length c.rules))
     (all_below (λ k. IsOver s (rule_claim part c at k)) (length c.rules)
     (λ k inside. (fires_over c s at k is of inside, (sets_over c s at k is of inside, tt))))
 
-send_in : (c : Controller) (s : Shape) (at : Reading) → IsController c → IsOfShape c s at → All (IsOver s) (send_claim part at c.window c.rate ∷ [])
+send_in : (c : Controller) (s : Shape) (at : ReadPoint) → IsController c → IsOfShape c s at → All (IsOver s) (send_claim part at c.window c.rate ∷ [])
 send_in c s at is of =
     All-cons (IsOver s) (send_claim part at c.window c.rate) []
     (send_over s at c.window c.rate of.reading_in (lin_sources s at (length c.states) c.window of.states_read is.each_lin.window)

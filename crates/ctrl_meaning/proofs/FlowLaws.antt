@@ -19,7 +19,7 @@ use Rattle.ctrl_types.specs.declared.controllers.Controller.{Controller}
 use Rattle.ctrl_meaning.specs.Flows.{fires_claim, guard_claim, rule_claim, sets_claim, step_claims}
 use Rattle.ctrl_meaning.specs.Meaning.{Fires, IsTrueAt, StateAgrees, Steps, den_of_all}
 use Rattle.ctrl_meaning.specs.Steps.{set_claim, set_of}
-use Rattle.ctrl_meaning.specs.declared.readings.Reading.{Reading}
+use Rattle.ctrl_meaning.specs.declared.readings.ReadPoint.{ReadPoint}
 use Rattle.path_server.proofs.RowColumns.{each_below}
 use Rattle.path_server.proofs.AdmissionLaws.{all_below}
 use Rattle.claim_values.proofs.ClaimLists.{both_halves, conjunction_means, each_of_map}
@@ -89,7 +89,7 @@ least_or_none P known (suc n) =
 -- ---- a step
 
 -- the claim that a rule fires holds exactly where it is the least whose guard is true
-fires_means : (c : Controller) (r : Run) (at : Reading) (k : ℕ) → 0 < den_of_all c → IsStepReady c r at → k < length c.rules
+fires_means : (c : Controller) (r : Run) (at : ReadPoint) (k : ℕ) → 0 < den_of_all c → IsStepReady c r at → k < length c.rules
     → Means (Holds (fires_claim (in_run r) c at k)) (Fires c r at k)
 fires_means c r at k some ready inside = (there, back)
   where
@@ -120,7 +120,7 @@ fires_means c r at k some ready inside = (there, back)
         (λ j less h. fires.least j less ((guard_means c r at j some ready (let among : j < length c.rules = omega arith in among)).0 h))))
         (All-cons Holds own [] ((guard_means c r at k some ready inside).1 fires.holds) (All-nil Holds)))
 
-sets_mean : (c : Controller) (r : Run) (at : Reading) (k : ℕ) → 0 < den_of_all c → IsStepReady c r at → k < length c.rules
+sets_mean : (c : Controller) (r : Run) (at : ReadPoint) (k : ℕ) → 0 < den_of_all c → IsStepReady c r at → k < length c.rules
     → Means (Holds (sets_claim (in_run r) c at k)) ((j : ℕ) → j < length c.states → StateAgrees c r at k j)
 sets_mean c r at k some ready inside = (there, back)
   where
@@ -140,7 +140,7 @@ sets_mean c r at k some ready inside = (there, back)
         (all_below (λ i. Holds (set i)) (length c.states) (λ j among. (state_means c r at k j some ready inside among).1 (agrees j among))))
 
 -- the last rule's guard is always true, so some rule fires
-some_rule_fires : (c : Controller) (r : Run) (at : Reading) → IsController c → 0 < den_of_all c → IsStepReady c r at → (k : ℕ) × Fires c r at k
+some_rule_fires : (c : Controller) (r : Run) (at : ReadPoint) → IsController c → 0 < den_of_all c → IsStepReady c r at → (k : ℕ) × Fires c r at k
 some_rule_fires c r at is some ready =
     elim (least_or_none P (λ k. holds_or_not (guard_claim (in_run r) c at k)) (length c.rules)) [
       | inl found ↦ (found.0, fires found.0 found.1)
@@ -164,7 +164,7 @@ some_rule_fires c r at is some ready =
         }
 
 -- the rules' claims hold exactly where the rule that fires gives each state
-pub step_means : (c : Controller) (r : Run) (at : Reading) → IsController c → 0 < den_of_all c → IsStepReady c r at
+pub step_means : (c : Controller) (r : Run) (at : ReadPoint) → IsController c → 0 < den_of_all c → IsStepReady c r at
     → Means (All Holds (step_claims (in_run r) c at)) ((rule : ℕ) × Steps c r at rule)
 step_means c r at is some ready = (there, back)
   where

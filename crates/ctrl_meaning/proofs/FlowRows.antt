@@ -19,7 +19,7 @@ use Rattle.ctrl_meaning.specs.Meaning.{IsStep, OpensWithin, Sends, den_of_all}
 use Rattle.ctrl_meaning.specs.Opening.{declared_state, opening_row, range_claims}
 use Rattle.ctrl_meaning.specs.Sends.{send_claim}
 use Rattle.ctrl_meaning.specs.Steps.{sending, stepping}
-use Rattle.ctrl_meaning.specs.declared.readings.Reading.{Reading}
+use Rattle.ctrl_meaning.specs.declared.readings.ReadPoint.{ReadPoint}
 use Rattle.path_server.proofs.RowColumns.{each_below, each_of_joined}
 use Rattle.path_server.proofs.AdmissionLaws.{all_below, all_flat_map}
 use Rattle.claim_values.proofs.ClaimLists.{both_halves, each_of_flows, flows_of_each}
@@ -49,7 +49,7 @@ opening_row_means c s r =
       λ within. flows_of_each Holds claims s.flows (λ f from to. (opening_means c s r f).1 (within f from to)),
     )
 
-sends_mean : (c : Controller) (r : Run) (at : Reading) → 0 < den_of_all c → IsStepReady c r at
+sends_mean : (c : Controller) (r : Run) (at : ReadPoint) → 0 < den_of_all c → IsStepReady c r at
     → Means (Holds (send_claim (in_run r) at c.window c.rate)) (Sends c r at)
 sends_mean c r at some ready = send_means r at (den_of_all c) c.window c.rate some ready.window ready.rate
 

@@ -4,7 +4,7 @@ use Rattle.std.proofs.Common.{◌≡◌, ℕ, ℤ, pos, neg_ℤ, ◌+ℤ◌, ◌
 use Rattle.std.proofs.lemmas.Int.{ints}
 use Rattle.whole.specs.declared.answers.Stuck.{Stuck}
 use Rattle.whole.proofs.Integers.{neg_ℤ-*ℤ}
-use Rattle.weighing.specs.Asked.{Tells, asked}
+use Rattle.weighing.specs.Queries.{Tells, asked}
 use Rattle.weighing.specs.Claim.{all_claims, Holds}
 use Rattle.weighing.proofs.AskedClaims.{tells_law}
 use Rattle.run_rows.specs.Runs.{state_of}
@@ -13,7 +13,7 @@ use Rattle.path_server.proofs.RuleLaws.{Means}
 use Rattle.path_server.specs.declared.settings.Setting.{Setting}
 use Rattle.ctrl_types.specs.declared.controllers.Controller.{Controller}
 use Rattle.ctrl_types.specs.declared.controllers.State.{State}
-use Rattle.ctrl_meaning.specs.Meaning.{IsFirstOut, IsInRange, IsStuckInOpening, NothingPassesInOpening, OpensInRange, OpensWithin}
+use Rattle.ctrl_meaning.specs.Meaning.{IsFirstOut, IsInRange, IsStuckInOpening, NothingOverflowsInOpening, OpensInRange, OpensWithin}
 use Rattle.ctrl_meaning.specs.Opening.{declared_state, opening, opening_answer, opening_row, range_claim, range_claims, state_in_range}
 use Rattle.ctrl_meaning.specs.declared.opening.OpeningHolds.{OpeningHolds}
 use Rattle.ctrl_meaning.specs.declared.opening.OpeningHolds.TheVariants.{Yes, State as Differs, Wide}
@@ -53,12 +53,12 @@ module _ (c : Controller) (s : Setting) (r : Run) (flow : ℕ) where
       tells_law false (opening_row c s) (range_claim c r (opening_row c s) flow) (length c.states) (OpensInRange c s r flow)
       (λ j among. range_means (declared_state c j) (state_of r (opening_row c s) flow j) r.over)
 
-  pub yes_law : opening c s r flow ≡ Yes → NothingPassesInOpening c s r flow × OpensWithin c s r flow
+  pub yes_law : opening c s r flow ≡ Yes → NothingOverflowsInOpening c s r flow × OpensWithin c s r flow
   unfolding opening
   yes_law is = tells.none.0 (yes_found (asked false (state_in_range c r (opening_row c s) flow) (length c.states)) is)
 
-  -- states within their ranges are found to be so, unless a weighing passes
-  pub yes_again : NothingPassesInOpening c s r flow → OpensWithin c s r flow → opening c s r flow ≡ Yes
+  -- states within their ranges are found to be so, unless a weighing overflows
+  pub yes_again : NothingOverflowsInOpening c s r flow → OpensWithin c s r flow → opening c s r flow ≡ Yes
   unfolding opening
   yes_again small within = ap opening_answer (tells.none.1 (small, within))
 
@@ -81,7 +81,7 @@ module _ (c : Controller) (s : Setting) (r : Run) (flow : ℕ) where
   unfolding opening
   wide_again stuck one = ap opening_answer ((tells.stuck stuck).1 one)
 
-  -- no state is found to be out of its range where none is, whatever passes
+  -- no state is found to be out of its range where none is, whatever overflows
   pub found_law : OpensWithin c s r flow → (opening c s r flow ≡ Yes) ⊎ ((stuck : Stuck) × (opening c s r flow ≡ Wide stuck))
   found_law within = by (opening c s r flow) refl
     where

@@ -23,12 +23,12 @@ use Rattle.ctrl_meaning.specs.Guards.{CanWeigh}
 use Rattle.ctrl_meaning.specs.Limits.{CanSend, CanStep, CanSum, FitsBoth, HasShape, IsControlled}
 use Rattle.ctrl_meaning.specs.Readings.{IsReading, reading, states_at}
 use Rattle.ctrl_meaning.specs.Steps.{sending, set_of, stepping}
-use Rattle.ctrl_meaning.specs.declared.readings.Reading.{Reading}
+use Rattle.ctrl_meaning.specs.declared.readings.ReadPoint.{ReadPoint}
 use Rattle.claim_values.proofs.Scales.{some_den}
 use Rattle.ctrl_meaning.proofs.Values.{AreScaled, is_scale, scale_divides}
 
 -- an expression's terms can be read, and their denominators divide d
-pub record IsReady (r : Run) (at : Reading) (d : ℕ) (lin : Lin) : Type 0 where
+pub record IsReady (r : Run) (at : ReadPoint) (d : ℕ) (lin : Lin) : Type 0 where
   pub terms_in : AreTerms r at lin.terms
   pub scaled : AreScaled d lin.terms
 
@@ -45,7 +45,7 @@ are_scaled d (t ∷ ts) nums dens =
     let D : LinTerm → Type 0 = λ u. den_of u.coef ∣ d in
     (some_den t.coef (All-head N t ts nums), All-head D t ts dens, are_scaled d ts (All-tail N t ts nums) (All-tail D t ts dens))
 
-lin_ready : (r : Run) (at : Reading) (n d : ℕ) (lin : Lin) → states_at r at ≡ n → IsLin n lin → HasNums lin → HasDens d lin → IsReady r at d lin
+lin_ready : (r : Run) (at : ReadPoint) (n d : ℕ) (lin : Lin) → states_at r at ≡ n → IsLin n lin → HasNums lin → HasDens d lin → IsReady r at d lin
 lin_ready r at n d lin same is nums dens = record {
   terms_in = λ k e inside. record {
     coef_in = nums k e inside;
@@ -54,7 +54,7 @@ lin_ready r at n d lin same is nums dens = record {
   scaled = are_scaled d lin.terms nums dens;
 }
 
-pub test_ready : (r : Run) (at : Reading) (n d : ℕ) (t : Test) → states_at r at ≡ n → EachExpr (IsLin n) t → EachExpr HasNums t → EachExpr (HasDens d) t
+pub test_ready : (r : Run) (at : ReadPoint) (n d : ℕ) (t : Test) → states_at r at ≡ n → EachExpr (IsLin n) t → EachExpr HasNums t → EachExpr (HasDens d) t
     → EachExpr (IsReady r at d) t
 test_ready r at n d always same is nums dens = tt
 test_ready r at n d never same is nums dens = tt
@@ -69,16 +69,16 @@ test_ready r at n d end_of_any same is nums dens = tt
 test_ready r at n d (any_of t rest) same is nums dens =
     (test_ready r at n d t same is.0 nums.0 dens.0, test_ready r at n d rest same is.1 nums.1 dens.1)
 
-pub option_ready : (r : Run) (at : Reading) (n d : ℕ) (o : Option Lin) → states_at r at ≡ n
+pub option_ready : (r : Run) (at : ReadPoint) (n d : ℕ) (o : Option Lin) → states_at r at ≡ n
     → OptionalLin (IsLin n) o → OptionalLin HasNums o → OptionalLin (HasDens d) o → OptionalLin (IsReady r at d) o
 option_ready r at n d None same is nums dens = tt
 option_ready r at n d (Some lin) same is nums dens = lin_ready r at n d lin same is nums dens
 
-pub one_divides : (r : Run) (at : Reading) (d : ℕ) (lin : Lin) → IsReady r at d lin → scale_with 1 lin.terms ∣ d
+pub one_divides : (r : Run) (at : ReadPoint) (d : ℕ) (lin : Lin) → IsReady r at d lin → scale_with 1 lin.terms ∣ d
 one_divides r at d lin ready =
     scale_divides (states_at r at) 1 d lin.terms (omega arith) ready.terms_in (one-dvd d) ready.scaled
 
-pub two_divide : (r : Run) (at : Reading) (d : ℕ) (left right : Lin) → IsReady r at d left → IsReady r at d right
+pub two_divide : (r : Run) (at : ReadPoint) (d : ℕ) (left right : Lin) → IsReady r at d left → IsReady r at d right
     → scale_of_two left right ∣ d
 two_divide r at d left right one two =
     let n : ℕ = states_at r at in
@@ -88,7 +88,7 @@ two_divide r at d left right one two =
 pub at_most : (m d : ℕ) → 0 < d → d ≤ 1000000 → m ∣ d → m ≤ 1000000
 at_most m d some small divides = omega (arith, le_of_dvd some divides)
 
-can_weigh : (r : Run) (at : Reading) (d most : ℕ) (t : Test) → 0 < d → d ≤ 1000000 → most ≤ at.heard
+can_weigh : (r : Run) (at : ReadPoint) (d most : ℕ) (t : Test) → 0 < d → d ≤ 1000000 → most ≤ at.heard
     → EachExpr (IsReady r at d) t → EachDelay (λ k. k ≤ most) t → CanWeigh r at t
 can_weigh r at d most always some small back ready delays = tt
 can_weigh r at d most never some small back ready delays = tt
@@ -103,7 +103,7 @@ can_weigh r at d most end_of_any some small back ready delays = tt
 can_weigh r at d most (any_of t rest) some small back ready delays =
     (can_weigh r at d most t some small back ready.0 delays.0, can_weigh r at d most rest some small back ready.1 delays.1)
 
-can_sum : (r : Run) (at : Reading) (d : ℕ) (o : Option Lin) → 0 < d → d ≤ 1000000 → OptionalLin (IsReady r at d) o → CanSum r at o
+can_sum : (r : Run) (at : ReadPoint) (d : ℕ) (o : Option Lin) → 0 < d → d ≤ 1000000 → OptionalLin (IsReady r at d) o → CanSum r at o
 can_sum r at d None some small ready = tt
 can_sum r at d (Some lin) some small ready = (ready.terms_in, at_most (scale_with 1 lin.terms) d some small (one_divides r at d lin ready))
 
@@ -162,13 +162,13 @@ is_reading c s r row flow states set fits controlled from to within =
     }
 
 -- what a step's weighing takes
-pub record IsStepReady (c : Controller) (r : Run) (at : Reading) : Type 0 where
+pub record IsStepReady (c : Controller) (r : Run) (at : ReadPoint) : Type 0 where
   pub guards : (k : ℕ) → k < length c.rules → EachExpr (IsReady r at (unsigned_abs c.den)) (test_of (rule_of c k).guard)
   pub sets : (k j : ℕ) → k < length c.rules → j < length c.states → OptionalLin (IsReady r at (unsigned_abs c.den)) (set_of c k j)
   pub window : IsReady r at (unsigned_abs c.den) c.window
   pub rate : OptionalLin (IsReady r at (unsigned_abs c.den)) c.rate
 
-pub step_ready : (c : Controller) (r : Run) (at : Reading) → IsController c → states_at r at ≡ length c.states → IsStepReady c r at
+pub step_ready : (c : Controller) (r : Run) (at : ReadPoint) → IsController c → states_at r at ≡ length c.states → IsStepReady c r at
 step_ready c r at is same =
     let n : ℕ = length c.states in
     let d : ℕ = unsigned_abs c.den in
@@ -187,7 +187,7 @@ step_ready c r at is same =
 pub can_step : (c : Controller) (s : Setting) (r : Run) (row flow : ℕ) → IsController c → IsSetting s → FitsBoth c s r → IsControlled c s row
     → 1 ≤ flow → flow ≤ s.flows → CanStep c r (stepping s row flow)
 can_step c s r row flow is set fits controlled from to =
-    let at : Reading = stepping s row flow in
+    let at : ReadPoint = stepping s row flow in
     let after = controlled.after_opening in
     let last = controlled.within in
     let rows = fits.shaped.row_count in
@@ -213,7 +213,7 @@ can_step c s r row flow is set fits controlled from to =
 pub can_send : (c : Controller) (s : Setting) (r : Run) (row flow : ℕ) → IsController c → IsSetting s → FitsBoth c s r → IsControlled c s row
     → 1 ≤ flow → flow ≤ s.flows → CanSend c r (sending s row flow)
 can_send c s r row flow is set fits controlled from to =
-    let at : Reading = sending s row flow in
+    let at : ReadPoint = sending s row flow in
     let after = controlled.after_opening in
     let last = controlled.within in
     let rows = fits.shaped.row_count in

@@ -4,7 +4,7 @@ use Rattle.std.proofs.Common.{◌≡◌, ℕ, ◌-◌, true, false, Bool, None, 
 use Rattle.std.proofs.Math.ListN.{get_or-map, length-map}
 use Rattle.std.proofs.Math.Path.{fun_ext}
 use Rattle.whole.specs.declared.answers.Stuck.{Stuck}
-use Rattle.weighing.specs.Asked.{asked}
+use Rattle.weighing.specs.Queries.{asked}
 use Rattle.weighing.specs.Claim.{outcome}
 use Rattle.run_rows.specs.declared.rows.Run.{Run}
 use Rattle.path_server.specs.declared.settings.Setting.{Setting}
@@ -14,7 +14,7 @@ use Rattle.ctrl_types.specs.declared.controllers.Controller.{Controller}
 use Rattle.ctrl_meaning.specs.Guards.{test_claim}
 use Rattle.ctrl_meaning.specs.Opening.{opening}
 use Rattle.ctrl_meaning.specs.Steps.{differing, fired, firing, guard_outcome, sending, sent, set_claim, set_outcome, step, stepping}
-use Rattle.ctrl_meaning.specs.declared.readings.Reading.{Reading}
+use Rattle.ctrl_meaning.specs.declared.readings.ReadPoint.{ReadPoint}
 
 -- a controller without rules that is otherwise seen as this one
 abbrev pub unruled : SeenController → Controller
@@ -40,19 +40,19 @@ module _ (c d : Controller) (same : controller_seen c ≡ controller_seen d) whe
   count_same : length c.rules ≡ length d.rules
   count_same = sym (rule_count c) ∙ ap (λ (x : SeenController). length x.rules) same ∙ rule_count d
 
-  guards_same : (r : Run) (at : Reading) → guard_outcome c r at ≡ guard_outcome d r at
+  guards_same : (r : Run) (at : ReadPoint) → guard_outcome c r at ≡ guard_outcome d r at
   guards_same r at = ap (λ (rules : ℕ → SeenRule). λ k. outcome at.row (test_claim (in_run r) at (rules k).guard)) rules_same
 
-  sets_same : (r : Run) (at : Reading) (k : ℕ) → set_outcome c r at k ≡ set_outcome d r at k
+  sets_same : (r : Run) (at : ReadPoint) (k : ℕ) → set_outcome c r at k ≡ set_outcome d r at k
   sets_same r at k = ap (λ (rules : ℕ → SeenRule). λ j. outcome at.row (set_claim (in_run r) at j (get_or (rules k).sets j None))) rules_same
 
-  fired_same : (r : Run) (at : Reading) → fired c r at ≡ fired d r at
+  fired_same : (r : Run) (at : ReadPoint) → fired c r at ≡ fired d r at
   unfolding fired
   fired_same r at =
       ap (λ (n : ℕ). firing (n - 1) (asked true (guard_outcome c r at) n)) count_same
       ∙ ap (λ (weighed : ℕ → Result Bool Stuck). firing (length d.rules - 1) (asked true weighed (length d.rules))) (guards_same r at)
 
-  differing_same : (r : Run) (at : Reading) (k : ℕ) → differing c r at k ≡ differing d r at k
+  differing_same : (r : Run) (at : ReadPoint) (k : ℕ) → differing c r at k ≡ differing d r at k
   unfolding differing
   differing_same r at k =
       ap (λ (x : SeenController). asked false (set_outcome c r at k) (length x.states)) same
@@ -62,7 +62,7 @@ module _ (c d : Controller) (same : controller_seen c ≡ controller_seen d) whe
   unfolding opening
   opening_same s r flow = ap (λ (x : SeenController). opening (unruled x) s r flow) same
 
-  pub sent_same : (r : Run) (at : Reading) → sent c r at ≡ sent d r at
+  pub sent_same : (r : Run) (at : ReadPoint) → sent c r at ≡ sent d r at
   unfolding sent
   sent_same r at = ap (λ (x : SeenController). sent (unruled x) r at) same
 

@@ -16,7 +16,7 @@ use Rattle.ctrl_types.specs.declared.expressions.Lin.{Lin}
 use Rattle.ctrl_meaning.specs.Expressions.{lin_terms, scale_with}
 use Rattle.ctrl_meaning.specs.Meaning.{allowed, greater, lesser, value}
 use Rattle.ctrl_meaning.specs.Sends.{growth_terms, rate_terms, send_claim, window_terms}
-use Rattle.ctrl_meaning.specs.declared.readings.Reading.{Reading}
+use Rattle.ctrl_meaning.specs.declared.readings.ReadPoint.{ReadPoint}
 use Rattle.ctrl_meaning.proofs.Readiness.{IsReady, one_divides}
 use Rattle.ctrl_meaning.proofs.TestLaws.{factor_of, over_value}
 use Rattle.claim_values.proofs.ClaimLists.{both_mean, either_means}
@@ -158,7 +158,7 @@ spread d a b v =
     let turned = *ℤ-neg_ℤ d b in
     let split = *ℤ-+ℤ d a (neg_ℤ b) in omega (arith, ints)
 
-window_value : (r : Run) (at : Reading) (d : ℕ) (lin : Lin) → 0 < d → IsReady r at d lin
+window_value : (r : Run) (at : ReadPoint) (d : ℕ) (lin : Lin) → 0 < d → IsReady r at d lin
     → pos (d / scale_with 1 lin.terms) *ℤ total (window_terms (in_run r) at lin)
     ≡ pos d *ℤ arrived r at.row at.flow
     -ℤ (pos d *ℤ (served r at.heard at.flow +ℤ lost r at.heard at.flow) +ℤ value r at d lin.terms)
@@ -171,7 +171,7 @@ window_value r at d lin some ready =
     ∙ over_value r at d lin (a -ℤ (s +ℤ l)) some ready
     ∙ spread (pos d) a (s +ℤ l) (value r at d lin.terms)
 
-rate_value : (r : Run) (at : Reading) (d : ℕ) (lin : Lin) → 0 < d → IsReady r at d lin
+rate_value : (r : Run) (at : ReadPoint) (d : ℕ) (lin : Lin) → 0 < d → IsReady r at d lin
     → pos (d / scale_with 1 lin.terms) *ℤ total (rate_terms (in_run r) at lin)
     ≡ pos d *ℤ arrived r at.row at.flow -ℤ (pos d *ℤ arrived r (at.row - 1) at.flow +ℤ value r at d lin.terms)
 rate_value r at d lin some ready =
@@ -183,7 +183,7 @@ rate_value r at d lin some ready =
     ∙ spread (pos d) a b (value r at d lin.terms)
 
 -- the claim on the arrivals holds exactly where they are what is allowed
-pub send_means : (r : Run) (at : Reading) (d : ℕ) (window : Lin) (rate : Option Lin) → 0 < d → IsReady r at d window
+pub send_means : (r : Run) (at : ReadPoint) (d : ℕ) (window : Lin) (rate : Option Lin) → 0 < d → IsReady r at d window
     → OptionalLin (IsReady r at d) rate
     → Means (Holds (send_claim (in_run r) at window rate)) (pos d *ℤ arrived r at.row at.flow ≡ allowed r at d window rate)
 send_means r at d window None some ready paced =

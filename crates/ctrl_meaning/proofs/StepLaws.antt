@@ -3,7 +3,7 @@ use Rattle.claims.specs.Subjects.{in_run}
 use Rattle.std.proofs.Common.{◌≡◌, ℕ, ◌-◌, ◌<◌, ◌≤◌, ◌⊎◌, inl, inr, Bool, true, false, Option, Some, None, Result, Ok, Err, length, refl, sym, ◌∙◌, ap, subst, arith}
 use Rattle.std.proofs.lemmas.Bool.{cases_lt}
 use Rattle.whole.specs.declared.answers.Stuck.{Stuck}
-use Rattle.weighing.specs.Asked.{IsFirstStuck, NonePasses, Tells, asked}
+use Rattle.weighing.specs.Queries.{IsFirstStuck, NoneOverflows, Tells, asked}
 use Rattle.weighing.specs.Claim.{Holds}
 use Rattle.weighing.proofs.AskedClaims.{tells_law}
 use Rattle.weighing.proofs.Claims.{outcome_answers}
@@ -16,25 +16,25 @@ use Rattle.ctrl_types.specs.Tests.{test_of}
 use Rattle.ctrl_types.specs.declared.controllers.Controller.{Controller}
 use Rattle.ctrl_meaning.specs.Guards.{test_claim}
 use Rattle.ctrl_meaning.specs.Limits.{FitsBoth, IsControlled}
-use Rattle.ctrl_meaning.specs.Meaning.{Fires, GuardHolds, IsFirstDiffering, IsOtherArrival, IsStep, IsStuckInSend, IsStuckInStep, IsTrueAt, NothingPasses, NothingPassesInSend, NothingPassesInStep, SendSticks, Sends, StateAgrees, Steps, den_of_all}
+use Rattle.ctrl_meaning.specs.Meaning.{Fires, GuardHolds, IsFirstDiffering, IsOtherArrival, IsStep, IsStuckInSend, IsStuckInStep, IsTrueAt, NothingOverflows, NothingOverflowsInSend, NothingOverflowsInStep, SendSticks, Sends, StateAgrees, Steps, den_of_all}
 use Rattle.ctrl_meaning.specs.Steps.{after_guards, after_rule, differing, fired, firing, guard_claim, guard_outcome, sending, sent, sent_claim, set_claim, set_of, state_claim, step, stepping}
-use Rattle.ctrl_meaning.specs.declared.readings.Reading.{Reading}
+use Rattle.ctrl_meaning.specs.declared.readings.ReadPoint.{ReadPoint}
 use Rattle.ctrl_meaning.specs.declared.step.StepHolds.{StepHolds}
 use Rattle.ctrl_meaning.specs.declared.step.StepHolds.TheVariants.{Yes, State, Arrival, StepWide, SendWide}
 use Rattle.ctrl_meaning.proofs.Readiness.{IsStepReady, can_step, has_den, step_ready}
 use Rattle.ctrl_meaning.proofs.SendLaws.{send_means}
 use Rattle.ctrl_meaning.proofs.TestLaws.{set_means, test_means}
 
-pub guard_means : (c : Controller) (r : Run) (at : Reading) (k : ℕ) → 0 < den_of_all c → IsStepReady c r at → k < length c.rules
+pub guard_means : (c : Controller) (r : Run) (at : ReadPoint) (k : ℕ) → 0 < den_of_all c → IsStepReady c r at → k < length c.rules
     → Means (Holds (test_claim (in_run r) at (test_of (rule_of c k).guard))) (GuardHolds c r at k)
 guard_means c r at k some ready inside = test_means r at (den_of_all c) (test_of (rule_of c k).guard) some (ready.guards k inside)
 
-pub state_means : (c : Controller) (r : Run) (at : Reading) (k j : ℕ) → 0 < den_of_all c → IsStepReady c r at → k < length c.rules
+pub state_means : (c : Controller) (r : Run) (at : ReadPoint) (k j : ℕ) → 0 < den_of_all c → IsStepReady c r at → k < length c.rules
     → j < length c.states → Means (Holds (set_claim (in_run r) at j (set_of c k j))) (StateAgrees c r at k j)
 state_means c r at k j some ready inside among = set_means r at (den_of_all c) j (set_of c k j) some (ready.sets k j inside among)
 
 -- only one rule is the least whose guard is true
-pub one_fires : (c : Controller) (r : Run) (at : Reading) (j k : ℕ) → Fires c r at j → Fires c r at k → j ≡ k
+pub one_fires : (c : Controller) (r : Run) (at : ReadPoint) (j k : ℕ) → Fires c r at j → Fires c r at k → j ≡ k
 one_fires c r at j k one two =
     elim (cases_lt j k) [
       | inl less ↦ absurd (two.least j less one.holds)
@@ -50,7 +50,7 @@ guards_stuck last (Ok None) stuck is = absurd (cc)
 guards_stuck last (Ok (Some k)) stuck is = absurd (cc)
 
 -- what is weighed where everything can be read
-module _ (c : Controller) (r : Run) (at : Reading) (some : 0 < den_of_all c) (ready : IsStepReady c r at) where
+module _ (c : Controller) (r : Run) (at : ReadPoint) (some : 0 < den_of_all c) (ready : IsStepReady c r at) where
   guards_tell : Tells true at.row (guard_claim c r at) (GuardHolds c r at) (length c.rules) (asked true (guard_outcome c r at) (length c.rules))
   guards_tell =
       tells_law true at.row (guard_claim c r at) (length c.rules) (GuardHolds c r at) (λ k inside. guard_means c r at k some ready inside)
@@ -63,12 +63,12 @@ module _ (c : Controller) (r : Run) (at : Reading) (some : 0 < den_of_all c) (re
       (λ j among. state_means c r at k j some ready fires.within among)
 
   -- the rule that is found is the least whose guard is true
-  pub fires_law : (k : ℕ) → IsController c → fired c r at ≡ Ok k → NonePasses (guard_claim c r at) (length c.rules) × Fires c r at k
+  pub fires_law : (k : ℕ) → IsController c → fired c r at ≡ Ok k → NoneOverflows (guard_claim c r at) (length c.rules) × Fires c r at k
   unfolding fired
   fires_law k is found = by (asked true (guard_outcome c r at) (length c.rules)) refl found
     where
       by : (t : Result (Option ℕ) Stuck) → asked true (guard_outcome c r at) (length c.rules) ≡ t → firing (length c.rules - 1) t ≡ Ok k
-          → NonePasses (guard_claim c r at) (length c.rules) × Fires c r at k
+          → NoneOverflows (guard_claim c r at) (length c.rules) × Fires c r at k
       by (Err stuck) asks fires = absurd (cc)
       by (Ok None) asks fires =
           let from = is.rules_from in
@@ -79,7 +79,7 @@ module _ (c : Controller) (r : Run) (at : Reading) (some : 0 < den_of_all c) (re
           let both = (guards_tell.some j).0 asks in
           (both.0, subst (Fires c r at) same (record { within = both.1.within; holds = both.1.here; least = both.1.before }))
 
-  pub fires_again : (k : ℕ) → NonePasses (guard_claim c r at) (length c.rules) → Fires c r at k → fired c r at ≡ Ok k
+  pub fires_again : (k : ℕ) → NoneOverflows (guard_claim c r at) (length c.rules) → Fires c r at k → fired c r at ≡ Ok k
   unfolding fired
   fires_again k small fires =
       ap (firing (length c.rules - 1))
@@ -95,41 +95,41 @@ module _ (c : Controller) (r : Run) (at : Reading) (some : 0 < den_of_all c) (re
   unfolding fired
   guards_stuck_again stuck one = ap (firing (length c.rules - 1)) ((guards_tell.stuck stuck).1 one)
 
-  -- where nothing passes in the guards and in what a rule gives that fires, nothing passes in the step
-  nothing_passes : (k : ℕ) → Fires c r at k → NonePasses (guard_claim c r at) (length c.rules) → NonePasses (state_claim c r at k) (length c.states)
-      → NothingPassesInStep c r at
-  nothing_passes k fires guards states = record {
+  -- where nothing overflows in the guards and in what a rule gives that fires, nothing overflows in the step
+  nothing_overflows : (k : ℕ) → Fires c r at k → NoneOverflows (guard_claim c r at) (length c.rules) → NoneOverflows (state_claim c r at k) (length c.states)
+      → NothingOverflowsInStep c r at
+  nothing_overflows k fires guards states = record {
     guards = guards;
-    states = λ j other. subst (λ i. NonePasses (state_claim c r at i) (length c.states)) (one_fires c r at k j fires other) states;
+    states = λ j other. subst (λ i. NoneOverflows (state_claim c r at i) (length c.states)) (one_fires c r at k j fires other) states;
   }
 
 -- what comes of weighing what is sent
-module _ (c : Controller) (r : Run) (at : Reading) (some : 0 < den_of_all c) (ready : IsStepReady c r at) where
+module _ (c : Controller) (r : Run) (at : ReadPoint) (some : 0 < den_of_all c) (ready : IsStepReady c r at) where
   send_means_it : Means (Holds (sent_claim c r at)) (Sends c r at)
   send_means_it = send_means r at (den_of_all c) c.window c.rate some ready.window ready.rate
 
-  pub sends_law : sent c r at ≡ Ok true → NothingPassesInSend c r at × Sends c r at
+  pub sends_law : sent c r at ≡ Ok true → NothingOverflowsInSend c r at × Sends c r at
   unfolding sent
   sends_law is = let both = (outcome_answers at.row (sent_claim c r at)).holds.0 is in (both.0, send_means_it.0 both.1)
 
-  pub sends_again : NothingPassesInSend c r at → Sends c r at → sent c r at ≡ Ok true
+  pub sends_again : NothingOverflowsInSend c r at → Sends c r at → sent c r at ≡ Ok true
   unfolding sent
   sends_again small sends = (outcome_answers at.row (sent_claim c r at)).holds.1 (small, send_means_it.1 sends)
 
-  pub not_sends_law : sent c r at ≡ Ok false → NothingPassesInSend c r at × (Sends c r at → ⊥)
+  pub not_sends_law : sent c r at ≡ Ok false → NothingOverflowsInSend c r at × (Sends c r at → ⊥)
   unfolding sent
   not_sends_law is =
       let both = (outcome_answers at.row (sent_claim c r at)).fails.0 is in (both.0, λ sends. both.1 (send_means_it.1 sends))
 
-  pub not_sends_again : NothingPassesInSend c r at → (Sends c r at → ⊥) → sent c r at ≡ Ok false
+  pub not_sends_again : NothingOverflowsInSend c r at → (Sends c r at → ⊥) → sent c r at ≡ Ok false
   unfolding sent
   not_sends_again small not = (outcome_answers at.row (sent_claim c r at)).fails.1 (small, λ holds. not (send_means_it.0 holds))
 
-pub send_sticks_law : (c : Controller) (r : Run) (at : Reading) (stuck : Stuck) → sent c r at ≡ Err stuck → SendSticks c r at stuck
+pub send_sticks_law : (c : Controller) (r : Run) (at : ReadPoint) (stuck : Stuck) → sent c r at ≡ Err stuck → SendSticks c r at stuck
 unfolding sent
 send_sticks_law c r at stuck = ((outcome_answers at.row (sent_claim c r at)).stuck stuck).0
 
-pub send_sticks_again : (c : Controller) (r : Run) (at : Reading) (stuck : Stuck) → SendSticks c r at stuck → sent c r at ≡ Err stuck
+pub send_sticks_again : (c : Controller) (r : Run) (at : ReadPoint) (stuck : Stuck) → SendSticks c r at stuck → sent c r at ≡ Err stuck
 unfolding sent
 send_sticks_again c r at stuck = ((outcome_answers at.row (sent_claim c r at)).stuck stuck).1
 
@@ -231,20 +231,20 @@ step_is c s r row flow k states send fires differs sends =
     ∙ ap (after_rule k states) sends
 
 module _ (c : Controller) (s : Setting) (r : Run) (row flow : ℕ) (ready : IsReadyRow c s r row flow) where
-  -- the states are those of a step of rule k, and nothing passes
-  steps_of : (k : ℕ) → fired c r (stepping s row flow) ≡ Ok k → differing c r (stepping s row flow) k ≡ Ok None → NothingPassesInStep c r (stepping s row flow) × Steps c r (stepping s row flow) k
+  -- the states are those of a step of rule k, and nothing overflows
+  steps_of : (k : ℕ) → fired c r (stepping s row flow) ≡ Ok k → differing c r (stepping s row flow) k ≡ Ok None → NothingOverflowsInStep c r (stepping s row flow) × Steps c r (stepping s row flow) k
   steps_of k fires none =
       let first = fires_law c r (stepping s row flow) ready.some ready.stepping_in k ready.controller_in fires in
       let states = (states_tell c r (stepping s row flow) ready.some ready.stepping_in k first.1).none.0 none in
-      (nothing_passes c r (stepping s row flow) ready.some ready.stepping_in k first.1 first.0 states.0, record { fires = first.1; agrees = states.1 })
+      (nothing_overflows c r (stepping s row flow) ready.some ready.stepping_in k first.1 first.0 states.0, record { fires = first.1; agrees = states.1 })
 
-  found_steps : (k : ℕ) → NothingPassesInStep c r (stepping s row flow) → Steps c r (stepping s row flow) k → (fired c r (stepping s row flow) ≡ Ok k) × (differing c r (stepping s row flow) k ≡ Ok None)
+  found_steps : (k : ℕ) → NothingOverflowsInStep c r (stepping s row flow) → Steps c r (stepping s row flow) k → (fired c r (stepping s row flow) ≡ Ok k) × (differing c r (stepping s row flow) k ≡ Ok None)
   found_steps k small steps = (
     fires_again c r (stepping s row flow) ready.some ready.stepping_in k small.guards steps.fires,
     (states_tell c r (stepping s row flow) ready.some ready.stepping_in k steps.fires).none.1 (small.states k steps.fires, steps.agrees),
   )
 
-  pub yes_law : (k : ℕ) → step c s r row flow ≡ Yes k → IsStep c s r row flow k × NothingPasses c s r row flow
+  pub yes_law : (k : ℕ) → step c s r row flow ≡ Yes k → IsStep c s r row flow k × NothingOverflows c s r row flow
   unfolding step
   yes_law k is =
       let parts = yes_parts (fired c r (stepping s row flow)) (differing c r (stepping s row flow)) (sent c r (sending s row flow)) k is in
@@ -252,8 +252,8 @@ module _ (c : Controller) (s : Setting) (r : Run) (row flow : ℕ) (ready : IsRe
       let sends = sends_law c r (sending s row flow) ready.some ready.sending_in parts.2 in
       (record { steps = steps.1; sends = sends.1 }, record { in_step = steps.0; in_send = sends.0 })
 
-  -- a step is found to be one, unless a weighing passes
-  pub yes_again : (k : ℕ) → IsStep c s r row flow k → NothingPasses c s r row flow → step c s r row flow ≡ Yes k
+  -- a step is found to be one, unless a weighing overflows
+  pub yes_again : (k : ℕ) → IsStep c s r row flow k → NothingOverflows c s r row flow → step c s r row flow ≡ Yes k
   yes_again k is small =
       let found = found_steps k small.in_step is.steps in
       step_is c s r row flow k (Ok None) (Ok true) found.0 found.1 (sends_again c r (sending s row flow) ready.some ready.sending_in small.in_send is.sends)
@@ -270,7 +270,7 @@ module _ (c : Controller) (s : Setting) (r : Run) (row flow : ℕ) (ready : IsRe
         within = both.1.within;
         before = both.1.before;
         differs = both.1.here;
-        weighed = nothing_passes c r (stepping s row flow) ready.some ready.stepping_in parts.rule first.1 first.0 both.0;
+        weighed = nothing_overflows c r (stepping s row flow) ready.some ready.stepping_in parts.rule first.1 first.0 both.0;
       }
 
   pub state_again : (j : ℕ) → IsFirstDiffering c r (stepping s row flow) j → step c s r row flow ≡ State j
@@ -337,15 +337,15 @@ module _ (c : Controller) (s : Setting) (r : Run) (row flow : ℕ) (ready : IsRe
         rule = parts.0.rule;
         steps = steps.1;
         weighed = steps.0;
-        passes = send_sticks_law c r (sending s row flow) stuck parts.1;
+        overflows = send_sticks_law c r (sending s row flow) stuck parts.1;
       }
 
   pub send_wide_again : (stuck : Stuck) → IsStuckInSend c s r row flow stuck → step c s r row flow ≡ SendWide stuck
   send_wide_again stuck one =
       let found = found_steps one.rule one.weighed one.steps in
-      step_is c s r row flow one.rule (Ok None) (Err stuck) found.0 found.1 (send_sticks_again c r (sending s row flow) stuck one.passes)
+      step_is c s r row flow one.rule (Ok None) (Err stuck) found.0 found.1 (send_sticks_again c r (sending s row flow) stuck one.overflows)
 
-  -- a step is never found to be none, whatever passes
+  -- a step is never found to be none, whatever overflows
   pub found_law : (k : ℕ) → IsStep c s r row flow k
       → (step c s r row flow ≡ Yes k) ⊎ ((stuck : Stuck) × ((step c s r row flow ≡ StepWide stuck) ⊎ (step c s r row flow ≡ SendWide stuck)))
   found_law k is = by (step c s r row flow) refl

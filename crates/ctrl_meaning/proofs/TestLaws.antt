@@ -24,7 +24,7 @@ use Rattle.ctrl_meaning.specs.Guards.{test_claim}
 use Rattle.ctrl_meaning.specs.Meaning.{HasValue, IsTrueAt, value}
 use Rattle.ctrl_meaning.specs.Readings.{states_at}
 use Rattle.ctrl_meaning.specs.Steps.{set_claim}
-use Rattle.ctrl_meaning.specs.declared.readings.Reading.{Reading}
+use Rattle.ctrl_meaning.specs.declared.readings.ReadPoint.{ReadPoint}
 use Rattle.ctrl_meaning.proofs.Readiness.{IsReady, one_divides, two_divide}
 use Rattle.ctrl_meaning.proofs.Values.{is_scale, left_value, right_value, scaled_more}
 
@@ -47,7 +47,7 @@ joined : (k x y u v : ℤ) → k *ℤ x ≡ u → k *ℤ y ≡ neg_ℤ v → k *
 joined k x y u v one two = let split = *ℤ-+ℤ k x y in omega (arith, ints)
 
 -- the sum of a written comparison, multiplied up, is the difference of the values of its sides
-comparison_value : (r : Run) (at : Reading) (d : ℕ) (left right : Lin) → 0 < d → IsReady r at d left → IsReady r at d right
+comparison_value : (r : Run) (at : ReadPoint) (d : ℕ) (left right : Lin) → 0 < d → IsReady r at d left → IsReady r at d right
     → pos (d / scale_of_two left right) *ℤ total (lin_terms (in_run r) at Left (scale_of_two left right) left.terms
     ++ lin_terms (in_run r) at Right (scale_of_two left right) right.terms)
     ≡ value r at d left.terms -ℤ value r at d right.terms
@@ -66,7 +66,7 @@ comparison_value r at d left right some one two =
     ∙ joined (pos k) (total (lin_terms (in_run r) at Left m left.terms)) (total (lin_terms (in_run r) at Right m right.terms))
     (value r at (k * m) left.terms) (value r at (k * m) right.terms) lefts rights)
 
-comparison_means : (r : Run) (at : Reading) (d : ℕ) (left : Lin) (rel : Rel5) (right : Lin) → 0 < d → IsReady r at d left → IsReady r at d right
+comparison_means : (r : Run) (at : ReadPoint) (d : ℕ) (left : Lin) (rel : Rel5) (right : Lin) → 0 < d → IsReady r at d left → IsReady r at d right
     → Means (Holds (leaf (comparison_claim (in_run r) at left rel right))) (Compares rel (value r at d left.terms) (value r at d right.terms))
 comparison_means r at d left rel right some one two =
     let m : ℕ = scale_of_two left right in
@@ -78,7 +78,7 @@ delay_stands : (a l s : ℤ) → Means (pos 0 ≤ℤ (pos 1 *ℤ a +ℤ (negsuc 
 delay_stands a l s = (λ h. omega (arith, ints), λ h. omega (arith, ints))
 
 -- a condition's claim holds exactly where the condition is true
-pub test_means : (r : Run) (at : Reading) (d : ℕ) (t : Test) → 0 < d → EachExpr (IsReady r at d) t
+pub test_means : (r : Run) (at : ReadPoint) (d : ℕ) (t : Test) → 0 < d → EachExpr (IsReady r at d) t
     → Means (Holds (test_claim (in_run r) at t)) (IsTrueAt r at d t)
 test_means r at d always some ready = (λ h. tt, λ h. tt)
 test_means r at d never some ready = (λ h. h, λ h. h)
@@ -100,7 +100,7 @@ same_stands : (x y : ℤ) → Means (pos 1 *ℤ x +ℤ (negsuc 0 *ℤ y +ℤ pos
 same_stands x y = (λ h. omega (arith, ints), λ h. omega (arith, ints))
 
 -- the sum of m entries and of the right side's terms, multiplied up
-pub over_value : (r : Run) (at : Reading) (d : ℕ) (lin : Lin) (x : ℤ) → 0 < d → IsReady r at d lin
+pub over_value : (r : Run) (at : ReadPoint) (d : ℕ) (lin : Lin) (x : ℤ) → 0 < d → IsReady r at d lin
     → pos (d / scale_with 1 lin.terms) *ℤ (pos (scale_with 1 lin.terms) *ℤ x +ℤ total (lin_terms (in_run r) at Right (scale_with 1 lin.terms) lin.terms))
     ≡ pos d *ℤ x -ℤ value r at d lin.terms
 over_value r at d lin x some ready =
@@ -113,7 +113,7 @@ over_value r at d lin x some ready =
     (sym (*ℤ_assoc (pos k) (pos m) x)) (right_value r at k m lin.terms scale.of_terms))
 
 -- what is claimed of a state holds exactly where it has its value
-pub set_means : (r : Run) (at : Reading) (d j : ℕ) (o : Option Lin) → 0 < d → OptionalLin (IsReady r at d) o
+pub set_means : (r : Run) (at : ReadPoint) (d j : ℕ) (o : Option Lin) → 0 < d → OptionalLin (IsReady r at d) o
     → Means (Holds (set_claim (in_run r) at j o)) (HasValue r at d j o)
 set_means r at d j None some ready = same_stands (state_of r at.row at.flow j) (state_of r at.states at.flow j)
 set_means r at d j (Some lin) some ready =

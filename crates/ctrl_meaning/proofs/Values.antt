@@ -20,7 +20,7 @@ use Rattle.ctrl_types.specs.declared.expressions.Source.{Source}
 use Rattle.ctrl_types.specs.declared.expressions.Source.TheVariants.{One, State, Acked, Lost}
 use Rattle.ctrl_meaning.specs.Expressions.{IsTerm, lin_terms, scale_with, source_terms, term_terms}
 use Rattle.ctrl_meaning.specs.Meaning.{amount, value}
-use Rattle.ctrl_meaning.specs.declared.readings.Reading.{Reading}
+use Rattle.ctrl_meaning.specs.declared.readings.ReadPoint.{ReadPoint}
 
 difference : (k x y : ℤ) → k *ℤ x +ℤ (neg_ℤ k *ℤ y +ℤ pos 0) ≡ k *ℤ (x -ℤ y)
 difference k x y =
@@ -32,14 +32,14 @@ plus_none : (x : ℤ) → x +ℤ pos 0 ≡ x
 plus_none x = omega (arith, ints)
 
 -- a term is its factor times what it is taken of
-source_total : (r : Run) (at : Reading) (k : ℤ) (of : Source) → total (source_terms (in_run r) at k of) ≡ k *ℤ amount r at of
+source_total : (r : Run) (at : ReadPoint) (k : ℤ) (of : Source) → total (source_terms (in_run r) at k of) ≡ k *ℤ amount r at of
 source_total r at k One = plus_none _
 source_total r at k (State j) = plus_none _
 source_total r at k Acked = difference k _ _
 source_total r at k Lost = difference k _ _
 
 -- the terms of the right side are those of the left side with their signs turned
-pub right_total : (r : Run) (at : Reading) (m : ℕ) (ts : List LinTerm)
+pub right_total : (r : Run) (at : ReadPoint) (m : ℕ) (ts : List LinTerm)
     → total (lin_terms (in_run r) at Right m ts) ≡ neg_ℤ (total (lin_terms (in_run r) at Left m ts))
 right_total r at m [] = omega (arith, ints)
 right_total r at m (t ∷ ts) =
@@ -58,7 +58,7 @@ AreScaled m [] = Unit {0}
 AreScaled m (t ∷ ts) = (0 < den_of t.coef) × (den_of t.coef ∣ m) × AreScaled m ts
 
 -- the left side's terms, multiplied up
-pub left_value : (r : Run) (at : Reading) (k m : ℕ) (ts : List LinTerm) → AreScaled m ts
+pub left_value : (r : Run) (at : ReadPoint) (k m : ℕ) (ts : List LinTerm) → AreScaled m ts
     → pos k *ℤ total (lin_terms (in_run r) at Left m ts) ≡ value r at (k * m) ts
 left_value r at k m [] each = omega (arith, ints)
 left_value r at k m (t ∷ ts) each =
@@ -71,7 +71,7 @@ left_value r at k m (t ∷ ts) each =
     ∙ ap (λ z. number (k * m) t.coef *ℤ a +ℤ z) (left_value r at k m ts each.2)
 
 -- and those of the right side
-pub right_value : (r : Run) (at : Reading) (k m : ℕ) (ts : List LinTerm) → AreScaled m ts
+pub right_value : (r : Run) (at : ReadPoint) (k m : ℕ) (ts : List LinTerm) → AreScaled m ts
     → pos k *ℤ total (lin_terms (in_run r) at Right m ts) ≡ neg_ℤ (value r at (k * m) ts)
 right_value r at k m ts each =
     ap (λ z. pos k *ℤ z) (right_total r at m ts)

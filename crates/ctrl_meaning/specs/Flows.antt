@@ -18,26 +18,26 @@ use Rattle.ctrl_meaning.specs.Meaning.{IsStep, OpensWithin}
 use Rattle.ctrl_meaning.specs.Opening.{declared_state, opening_row, range_claims}
 use Rattle.ctrl_meaning.specs.Sends.{send_claim}
 use Rattle.ctrl_meaning.specs.Steps.{sending, set_claim, set_of, stepping}
-use Rattle.ctrl_meaning.specs.declared.readings.Reading.{Reading}
+use Rattle.ctrl_meaning.specs.declared.readings.ReadPoint.{ReadPoint}
 
 -- ---- a step: where a rule is the least whose guard is true, each state is what it gives
 
-abbrev pub guard_claim : {T : Type 0} → (ℤ → Subject → T) → Controller → Reading → ℕ → Claims T
+abbrev pub guard_claim : {T : Type 0} → (ℤ → Subject → T) → Controller → ReadPoint → ℕ → Claims T
 guard_claim term c at k = test_claim term at (test_of (rule_of c k).guard)
 
 -- rule k fires: no guard before its own is true, and its own is
-abbrev pub fires_claim : {T : Type 0} → (ℤ → Subject → T) → Controller → Reading → ℕ → Claims T
+abbrev pub fires_claim : {T : Type 0} → (ℤ → Subject → T) → Controller → ReadPoint → ℕ → Claims T
 fires_claim term c at k = conjunction (map (λ j. opposite (guard_claim term c at j)) (below k) ++ guard_claim term c at k ∷ [])
 
 -- each state is what rule k gives it
-abbrev pub sets_claim : {T : Type 0} → (ℤ → Subject → T) → Controller → Reading → ℕ → Claims T
+abbrev pub sets_claim : {T : Type 0} → (ℤ → Subject → T) → Controller → ReadPoint → ℕ → Claims T
 sets_claim term c at k = conjunction (map (λ j. set_claim term at j (set_of c k j)) (below (length c.states)))
 
-abbrev pub rule_claim : {T : Type 0} → (ℤ → Subject → T) → Controller → Reading → ℕ → Claims T
+abbrev pub rule_claim : {T : Type 0} → (ℤ → Subject → T) → Controller → ReadPoint → ℕ → Claims T
 rule_claim term c at k = disjunction (opposite (fires_claim term c at k) ∷ sets_claim term c at k ∷ [])
 
 -- one claim for each rule
-abbrev pub step_claims : {T : Type 0} → (ℤ → Subject → T) → Controller → Reading → List (Claims T)
+abbrev pub step_claims : {T : Type 0} → (ℤ → Subject → T) → Controller → ReadPoint → List (Claims T)
 step_claims term c at = map (rule_claim term c at) (below (length c.rules))
 
 -- ---- the claims of a row

@@ -12,7 +12,7 @@ use Rattle.ctrl_meaning.specs.Expressions.{AreTerms, scale_with}
 use Rattle.ctrl_meaning.specs.Guards.{CanWeigh}
 use Rattle.ctrl_meaning.specs.Readings.{IsReading}
 use Rattle.ctrl_meaning.specs.Steps.{set_of}
-use Rattle.ctrl_meaning.specs.declared.readings.Reading.{Reading}
+use Rattle.ctrl_meaning.specs.declared.readings.ReadPoint.{ReadPoint}
 
 -- the run has the shape of the setting's runs for this controller
 abbrev pub HasShape : Controller → Setting → Run → Type 0
@@ -27,12 +27,12 @@ pub record IsControlled (c : Controller) (s : Setting) (row : ℕ) : Type 0 wher
   pub after_opening : (shape_of s (length c.states) c.delay_max).h < row
   pub within : row ≤ (shape_of s (length c.states) c.delay_max).h + s.steps
 
-abbrev pub CanSum : Run → Reading → Option Lin → Type 0
+abbrev pub CanSum : Run → ReadPoint → Option Lin → Type 0
 CanSum r at None = Unit {0}
 CanSum r at (Some lin) = AreTerms r at lin.terms × (scale_with 1 lin.terms ≤ 1000000)
 
 -- guards and assignments can be weighed at this reading
-pub record CanStep (c : Controller) (r : Run) (at : Reading) : Type 0 where
+pub record CanStep (c : Controller) (r : Run) (at : ReadPoint) : Type 0 where
   pub run_in : IsRun r
   pub at_in : IsReading r at
   pub states_to : length c.states ≤ 8
@@ -45,7 +45,7 @@ pub record CanStep (c : Controller) (r : Run) (at : Reading) : Type 0 where
   pub states_here : length (flow_of r at.row at.flow).x ≡ length c.states
 
 -- window and rate can be weighed at this reading
-pub record CanSend (c : Controller) (r : Run) (at : Reading) : Type 0 where
+pub record CanSend (c : Controller) (r : Run) (at : ReadPoint) : Type 0 where
   pub run_in : IsRun r
   pub at_in : IsReading r at
   pub window_in : CanSum r at (Some c.window)

@@ -2,7 +2,7 @@
 use Rattle.std.specs.Prelude.{ℕ, ℤ, pos, neg_ℤ, List, [], ◌∷◌, length, Option, Some, None, Result, Ok, Err, Bool, false}
 use Rattle.std.proofs.Common.{get_or}
 use Rattle.whole.specs.declared.answers.Stuck.{Stuck}
-use Rattle.weighing.specs.Asked.{asked}
+use Rattle.weighing.specs.Queries.{asked}
 use Rattle.claims.specs.Subjects.{constant, in_run, of_state}
 use Rattle.weighing.specs.Claim.{Claim, Claims, all_claims, compare, outcome}
 use Rattle.weighing.specs.declared.weighings.Rel5.TheVariants.{AtLeast, AtMost}

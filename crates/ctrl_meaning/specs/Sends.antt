@@ -10,21 +10,21 @@ use Rattle.weighing.specs.declared.weighings.Rel5.TheVariants.{AtLeast, AtMost}
 use Rattle.ctrl_types.specs.declared.expressions.Lin.{Lin}
 use Rattle.ctrl_meaning.specs.Expressions.{lin_terms, scale_with}
 use Rattle.ctrl_meaning.specs.Readings.{losses_heard}
-use Rattle.ctrl_meaning.specs.declared.readings.Reading.{Reading}
+use Rattle.ctrl_meaning.specs.declared.readings.ReadPoint.{ReadPoint}
 
 -- what the flow sent in this row
-abbrev pub growth_terms : {T : Type 0} → (ℤ → Subject → T) → Reading → List T
+abbrev pub growth_terms : {T : Type 0} → (ℤ → Subject → T) → ReadPoint → List T
 growth_terms term at = term (pos 1) (of_arrivals at.row at.flow) ∷ term (negsuc 0) (of_arrivals (at.row - 1) at.flow) ∷ []
 
 -- the arrivals less what was served, what was lost and the window, as the sender hears of them
-abbrev pub window_terms : {T : Type 0} → (ℤ → Subject → T) → Reading → Lin → List T
+abbrev pub window_terms : {T : Type 0} → (ℤ → Subject → T) → ReadPoint → Lin → List T
 window_terms term at window =
     let scale = scale_with 1 window.terms in
     (term (pos scale) (of_arrivals at.row at.flow) ∷ term (neg_ℤ (pos scale)) (of_service at.heard at.flow)
     ∷ term (neg_ℤ (pos scale)) (losses_heard at) ∷ []) ++ lin_terms term at Right scale window.terms
 
 -- what the flow sent in this row less the rate
-abbrev pub rate_terms : {T : Type 0} → (ℤ → Subject → T) → Reading → Lin → List T
+abbrev pub rate_terms : {T : Type 0} → (ℤ → Subject → T) → ReadPoint → Lin → List T
 rate_terms term at rate =
     let scale = scale_with 1 rate.terms in
     (term (pos scale) (of_arrivals at.row at.flow) ∷ term (neg_ℤ (pos scale)) (of_arrivals (at.row - 1) at.flow) ∷ [])
@@ -43,7 +43,7 @@ paced_claim growth window rate =
     (all_of (any_of (compare growth AtMost) (compare rate AtMost))
     (any_of (all_of (compare growth AtLeast) (compare window AtLeast)) (all_of (compare growth AtLeast) (compare rate AtLeast))))
 
-abbrev pub send_claim : {T : Type 0} → (ℤ → Subject → T) → Reading → Lin → Option Lin → Claims T
+abbrev pub send_claim : {T : Type 0} → (ℤ → Subject → T) → ReadPoint → Lin → Option Lin → Claims T
 send_claim term at window None = unpaced_claim (growth_terms term at) (window_terms term at window)
 send_claim term at window (Some rate) = paced_claim (growth_terms term at) (window_terms term at window) (rate_terms term at rate)
 

@@ -2,7 +2,7 @@
 use Rattle.std.specs.Prelude.{ℕ, ◌-◌, ℤ, pos, negsuc, Bool, true, false, [], ◌∷◌, length, Option, Some, None, Result, Ok, Err}
 use Rattle.std.proofs.Common.{get_or}
 use Rattle.whole.specs.declared.answers.Stuck.{Stuck}
-use Rattle.weighing.specs.Asked.{asked}
+use Rattle.weighing.specs.Queries.{asked}
 use Rattle.claims.specs.Subjects.{Subject, in_run, of_state}
 use Rattle.weighing.specs.Claim.{Claim, Claims, compare, outcome}
 use Rattle.weighing.specs.declared.scales.Side.TheVariants.{Right}
@@ -17,20 +17,20 @@ use Rattle.ctrl_meaning.specs.Expressions.{lin_terms, scale_with}
 use Rattle.ctrl_meaning.specs.Guards.{test_claim}
 use Rattle.ctrl_meaning.specs.Readings.{reading}
 use Rattle.ctrl_meaning.specs.Sends.{send_claim}
-use Rattle.ctrl_meaning.specs.declared.readings.Reading.{Reading}
+use Rattle.ctrl_meaning.specs.declared.readings.ReadPoint.{ReadPoint}
 use Rattle.ctrl_meaning.specs.declared.step.StepHolds.{StepHolds}
 use Rattle.ctrl_meaning.specs.declared.step.StepHolds.TheVariants.{Yes, State, Arrival, StepWide, SendWide}
 
 -- guards and assignments read the states of the row before
-abbrev pub stepping : Setting → ℕ → ℕ → Reading
+abbrev pub stepping : Setting → ℕ → ℕ → ReadPoint
 stepping s row flow = reading row flow (row - 1) (row - s.rtt)
 
 -- the window and the rate read the states of the row itself
-abbrev pub sending : Setting → ℕ → ℕ → Reading
+abbrev pub sending : Setting → ℕ → ℕ → ReadPoint
 sending s row flow = reading row flow row (row - s.rtt)
 
 -- what a rule claims of a state: it has the value of its expression, or it keeps its value
-abbrev pub set_claim : {T : Type 0} → (ℤ → Subject → T) → Reading → ℕ → Option Lin → Claims T
+abbrev pub set_claim : {T : Type 0} → (ℤ → Subject → T) → ReadPoint → ℕ → Option Lin → Claims T
 set_claim term at j None =
     compare (term (pos 1) (of_state at.row at.flow j) ∷ term (negsuc 0) (of_state at.states at.flow j) ∷ []) Equal
 set_claim term at j (Some lin) =
@@ -42,16 +42,16 @@ abbrev pub set_of : Controller → ℕ → ℕ → Option Lin
 set_of c k j = get_or (rule_of c k).sets j None
 
 -- that the guard of rule k is true; that rule k gives state j its value
-abbrev pub guard_claim : Controller → Run → Reading → ℕ → Claim
+abbrev pub guard_claim : Controller → Run → ReadPoint → ℕ → Claim
 guard_claim c r at k = test_claim (in_run r) at (test_of (rule_of c k).guard)
 
-abbrev pub state_claim : Controller → Run → Reading → ℕ → ℕ → Claim
+abbrev pub state_claim : Controller → Run → ReadPoint → ℕ → ℕ → Claim
 state_claim c r at k j = set_claim (in_run r) at j (set_of c k j)
 
-abbrev pub guard_outcome : Controller → Run → Reading → ℕ → Result Bool Stuck
+abbrev pub guard_outcome : Controller → Run → ReadPoint → ℕ → Result Bool Stuck
 guard_outcome c r at k = outcome at.row (guard_claim c r at k)
 
-abbrev pub set_outcome : Controller → Run → Reading → ℕ → ℕ → Result Bool Stuck
+abbrev pub set_outcome : Controller → Run → ReadPoint → ℕ → ℕ → Result Bool Stuck
 set_outcome c r at k j = outcome at.row (state_claim c r at k j)
 
 -- the last rule fires where no other does
@@ -61,18 +61,18 @@ firing last (Ok None) = Ok last
 firing last (Ok (Some k)) = Ok k
 
 -- the rule that fires; all guards are weighed first
-unfoldable pub fired : Controller → Run → Reading → Result ℕ Stuck
+unfoldable pub fired : Controller → Run → ReadPoint → Result ℕ Stuck
 fired c r at = firing (length c.rules - 1) (asked true (guard_outcome c r at) (length c.rules))
 
 -- the first state that differs from what rule k gives it; all states are weighed first
-unfoldable pub differing : Controller → Run → Reading → ℕ → Result (Option ℕ) Stuck
+unfoldable pub differing : Controller → Run → ReadPoint → ℕ → Result (Option ℕ) Stuck
 differing c r at k = asked false (set_outcome c r at k) (length c.states)
 
 -- that the flow has sent what it may
-abbrev pub sent_claim : Controller → Run → Reading → Claim
+abbrev pub sent_claim : Controller → Run → ReadPoint → Claim
 sent_claim c r at = send_claim (in_run r) at c.window c.rate
 
-unfoldable pub sent : Controller → Run → Reading → Result Bool Stuck
+unfoldable pub sent : Controller → Run → ReadPoint → Result Bool Stuck
 sent c r at = outcome at.row (sent_claim c r at)
 
 abbrev pub after_states : ℕ → Result Bool Stuck → StepHolds

@@ -9,14 +9,14 @@ ghost use Rattle.ctrl_types.specs.Limits.{IsSource};
 ghost use Rattle.ctrl_meaning.specs.Expressions.{AreTerms, comparison_claim, lin_terms, scale_of_two, scale_with, source_terms};
 ghost use Rattle.ctrl_meaning.specs.Readings.{IsReading, states_at};
 
-use crate::readings::Reading;
+use crate::readings::ReadPoint;
 use ctrl_types::{Lin, Source};
 use run_rows::Run;
 use weighing::{Rel5, Side, Weighing, with_denominator};
 use whole::Stuck;
 
 /// The number with its sign turned.
-#[tactic(auto, using(whole::proofs::Passing::signed))]
+#[tactic(auto, using(whole::proofs::Overflow::signed))]
 pub fn negated(number: i128) -> i128
     requires { unsigned_abs number ≤ 1000000000000 }
     ensures value { result ≡ neg_ℤ number }
@@ -26,8 +26,8 @@ pub fn negated(number: i128) -> i128
 }
 
 /// The weighing with a multiple of what a term is taken of.
-#[tactic(auto, using(whole::proofs::Passing::signed))]
-fn plus_source(weighing: Weighing, run: &Run, at: &Reading, factor: i128, of: Source) -> Weighing
+#[tactic(auto, using(whole::proofs::Overflow::signed))]
+fn plus_source(weighing: Weighing, run: &Run, at: &ReadPoint, factor: i128, of: Source) -> Weighing
     requires run_in { IsRun run.now }
     requires at_in { IsReading run.now at.now }
     requires source_in { IsSource (states_at run.now at.now) of }
@@ -57,7 +57,7 @@ fn plus_source(weighing: Weighing, run: &Run, at: &Reading, factor: i128, of: So
 pub fn plus_lin(
     start: Weighing,
     run: &Run,
-    at: &Reading,
+    at: &ReadPoint,
     side: Side,
     scale: u32,
     lin: &Lin,
@@ -77,7 +77,7 @@ pub fn plus_lin(
 }
 
 /// The least common multiple of the scale and the expression's denominators.
-pub fn scale_with(start: u32, run: &Run, at: &Reading, lin: &Lin) -> u32
+pub fn scale_with(start: u32, run: &Run, at: &ReadPoint, lin: &Lin) -> u32
     requires start_from { 1 ≤ start }
     requires terms_in { AreTerms run.now at.now lin.now.terms }
     requires least_to { scale_with start lin.now.terms ≤ 1000000 }
@@ -90,13 +90,13 @@ pub fn scale_with(start: u32, run: &Run, at: &Reading, lin: &Lin) -> u32
     scale
 }
 
-/// Whether the sides of a comparison stand so, or the first operation that passes in weighing it.
+/// Whether the sides of a comparison stand so, or the first operation that overflows in weighing it.
 pub fn comparison(
     left: &Lin,
     rel: Rel5,
     right: &Lin,
     run: &Run,
-    at: &Reading,
+    at: &ReadPoint,
 ) -> Result<bool, Stuck>
     requires run_in { IsRun run.now }
     requires at_in { IsReading run.now at.now }

@@ -9,15 +9,15 @@ ghost use Rattle.ctrl_meaning.specs.Guards.{CanWeigh, delay_claim, test_claim};
 ghost use Rattle.ctrl_meaning.specs.Readings.{IsReading};
 
 use crate::expressions::comparison;
-use crate::readings::Reading;
+use crate::readings::ReadPoint;
 use ctrl_types::Gate;
 use run_rows::Run;
-use weighing::{Rel5, Term, both, compare, either, not};
+use weighing::{Rel5, Summand, both, compare, either, not};
 use whole::Stuck;
 
-/// Whether the guard holds, or the first operation that passes in weighing it.
+/// Whether the guard holds, or the first operation that overflows in weighing it.
 #[cycle(guards)]
-pub fn gate_holds(gate: &Gate, run: &Run, at: &Reading) -> Result<bool, Stuck>
+pub fn gate_holds(gate: &Gate, run: &Run, at: &ReadPoint) -> Result<bool, Stuck>
     requires run_in { IsRun run.now }
     requires at_in { IsReading run.now at.now }
     requires gate_in { CanWeigh run.now at.now (test_of gate.now) }
@@ -36,7 +36,7 @@ pub fn gate_holds(gate: &Gate, run: &Run, at: &Reading) -> Result<bool, Stuck>
 
 /// Whether all parts hold.
 #[cycle(guards)]
-fn all_hold(parts: &Vec<Gate>, run: &Run, at: &Reading) -> Result<bool, Stuck>
+fn all_hold(parts: &Vec<Gate>, run: &Run, at: &ReadPoint) -> Result<bool, Stuck>
     requires run_in { IsRun run.now }
     requires at_in { IsReading run.now at.now }
     requires parts_in { CanWeigh run.now at.now (conjunction (map test_of parts.now.items)) }
@@ -51,7 +51,7 @@ fn all_hold(parts: &Vec<Gate>, run: &Run, at: &Reading) -> Result<bool, Stuck>
 
 /// Whether one of the parts holds.
 #[cycle(guards)]
-fn any_holds(parts: &Vec<Gate>, run: &Run, at: &Reading) -> Result<bool, Stuck>
+fn any_holds(parts: &Vec<Gate>, run: &Run, at: &ReadPoint) -> Result<bool, Stuck>
     requires run_in { IsRun run.now }
     requires at_in { IsReading run.now at.now }
     requires parts_in { CanWeigh run.now at.now (disjunction (map test_of parts.now.items)) }
@@ -65,8 +65,8 @@ fn any_holds(parts: &Vec<Gate>, run: &Run, at: &Reading) -> Result<bool, Stuck>
 }
 
 /// Whether all that was accepted this many rows before the row that the sender hears of was served by then.
-#[tactic(auto, using(whole::proofs::Passing::signed))]
-fn was_served(rows: u32, run: &Run, at: &Reading) -> Result<bool, Stuck>
+#[tactic(auto, using(whole::proofs::Overflow::signed))]
+fn was_served(rows: u32, run: &Run, at: &ReadPoint) -> Result<bool, Stuck>
     requires run_in { IsRun run.now }
     requires at_in { IsReading run.now at.now }
     requires rows_in { rows ≤ at.now.heard }
@@ -74,6 +74,6 @@ fn was_served(rows: u32, run: &Run, at: &Reading) -> Result<bool, Stuck>
 {
     let then = run.flow(at.heard - rows, at.flow);
     let now = run.flow(at.heard, at.flow);
-    let terms = [Term(1, then.a), Term(-1, then.l), Term(-1, now.s)];
+    let terms = [Summand(1, then.a), Summand(-1, then.l), Summand(-1, now.s)];
     compare(at.row, &terms, Rel5::AtLeast)
 }

@@ -16,5 +16,5 @@ mod step;
 mod tests;
 
 pub use opening::{OpeningHolds, opening_holds};
-pub use readings::Reading;
+pub use readings::ReadPoint;
 pub use step::{StepHolds, step_holds};

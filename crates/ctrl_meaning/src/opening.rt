@@ -2,13 +2,13 @@ ghost use Rattle.std.specs.Prelude.{◌≡◌, ◌↔◌, ◌⊎◌, ◌<◌, �
 ghost use Rattle.whole.specs.declared.answers.Stuck.{Stuck};
 ghost use Rattle.weighing.specs.Weighed.{times};
 ghost use Rattle.run_rows.specs.Runs.{IsEntry, IsRun, flow_count, flow_of};
-ghost use Rattle.weighing.specs.Asked.{asked};
+ghost use Rattle.weighing.specs.Queries.{asked};
 ghost use Rattle.weighing.specs.Claim.{all_claims, outcome};
 ghost use Rattle.weighing.specs.Scaled.{IsNum};
 ghost use Rattle.path_server.specs.Limits.{IsSetting};
 ghost use Rattle.ctrl_types.specs.Limits.{IsController};
 ghost use Rattle.ctrl_meaning.specs.Limits.{FitsBoth};
-ghost use Rattle.ctrl_meaning.specs.Meaning.{IsFirstOut, IsStuckInOpening, NothingPassesInOpening, OpensWithin};
+ghost use Rattle.ctrl_meaning.specs.Meaning.{IsFirstOut, IsStuckInOpening, NothingOverflowsInOpening, OpensWithin};
 ghost use Rattle.ctrl_meaning.specs.Opening.{declared_state, opening, range_claims, state_in_range};
 
 use crate::asking::noted;
@@ -16,7 +16,7 @@ use crate::expressions::negated;
 use ctrl_types::{Controller, State};
 use path_server::Setting;
 use run_rows::Run;
-use weighing::{Rel5, Term, both, compare};
+use weighing::{Rel5, Summand, both, compare};
 use whole::Stuck;
 
 /// Whether the states of a flow lie within their ranges on the opening row.
@@ -25,7 +25,7 @@ pub enum OpeningHolds {
     Yes,
     /// The first state that is out of its range.
     State { state: u32 },
-    /// A comparison of a state with a bound passes 128 bits.
+    /// A comparison of a state with a bound overflows 128 bits.
     Wide(Stuck),
 }
 
@@ -43,7 +43,7 @@ pub fn opening_holds(
     requires flow_from { 1 ≤ flow }
     requires flow_to { flow ≤ setting.now.flows }
     ensures exact { result ≡ opening controller.now setting.now run.now flow }
-    ensures yes { (result ≡ OpeningHolds.Yes) ↔ (NothingPassesInOpening controller.now setting.now run.now flow × OpensWithin controller.now setting.now run.now flow) }
+    ensures yes { (result ≡ OpeningHolds.Yes) ↔ (NothingOverflowsInOpening controller.now setting.now run.now flow × OpensWithin controller.now setting.now run.now flow) }
     ensures state { (state : ℕ) → (result ≡ OpeningHolds.State state) ↔ IsFirstOut controller.now setting.now run.now flow state }
     ensures wide { (stuck : Stuck) → (result ≡ OpeningHolds.Wide stuck) ↔ IsStuckInOpening controller.now setting.now run.now flow stuck }
 
@@ -99,7 +99,7 @@ fn first_out_of_range(
 }
 
 /// Whether the value, in units of `1 / over`, lies within the state's range.
-#[tactic(auto, using(whole::proofs::Passing::signed))]
+#[tactic(auto, using(whole::proofs::Overflow::signed))]
 fn is_in_range(state: &State, value: i128, over: i128, row: u32) -> Result<bool, Stuck>
     requires lo_in { IsNum state.now.lo }
     requires hi_in { IsNum state.now.hi }
@@ -107,8 +107,14 @@ fn is_in_range(state: &State, value: i128, over: i128, row: u32) -> Result<bool,
     requires over_in { IsEntry over }
     ensures { result ≡ outcome row (all_claims (range_claims times state.now value over)) }
 {
-    let from = [Term(state.lo.den, value), Term(negated(state.lo.num), over)];
-    let to = [Term(state.hi.den, value), Term(negated(state.hi.num), over)];
+    let from = [
+        Summand(state.lo.den, value),
+        Summand(negated(state.lo.num), over),
+    ];
+    let to = [
+        Summand(state.hi.den, value),
+        Summand(negated(state.hi.num), over),
+    ];
     both(
         compare(row, &from, Rel5::AtLeast),
         compare(row, &to, Rel5::AtMost),

@@ -1,6 +1,6 @@
 /// Where an expression is read.
 #[derive(Clone, Copy, Debug)]
-pub struct Reading {
+pub struct ReadPoint {
     /// The row that is weighed, by which a weighing that is stuck is named.
     pub row: u32,
     pub flow: u32,

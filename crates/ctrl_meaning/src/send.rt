@@ -9,16 +9,16 @@ ghost use Rattle.ctrl_meaning.specs.Sends.{growth_terms, paced_outcome, rate_ter
 ghost use Rattle.ctrl_meaning.specs.Steps.{sent};
 
 use crate::expressions::{negated, plus_lin, scale_with};
-use crate::readings::Reading;
+use crate::readings::ReadPoint;
 use ctrl_types::{Controller, Lin};
 use run_rows::Run;
-use weighing::{Rel5, Side, Term, Weighing, both, either};
+use weighing::{Rel5, Side, Summand, Weighing, both, either};
 use whole::Stuck;
 
-/// Whether the flow's arrivals are what the window and the rate give, or the first operation that passes. Each of the
+/// Whether the flow's arrivals are what the window and the rate give, or the first operation that overflows. Each of the
 /// three sums is weighed once.
 #[tactic(auto, unfolding(crate::specs::Steps::sent))]
-pub fn sent(controller: &Controller, run: &Run, at: &Reading) -> Result<bool, Stuck>
+pub fn sent(controller: &Controller, run: &Run, at: &ReadPoint) -> Result<bool, Stuck>
     requires { CanSend controller.now run.now at.now }
     ensures { result ≡ sent controller.now run.now at.now }
 {
@@ -56,20 +56,20 @@ fn paced(growth: Weighing, window: Weighing, rate: Weighing) -> Result<bool, Stu
 }
 
 /// What the flow sent in this row.
-#[tactic(auto, using(whole::proofs::Passing::signed))]
-fn growth(run: &Run, at: &Reading) -> Weighing
+#[tactic(auto, using(whole::proofs::Overflow::signed))]
+fn growth(run: &Run, at: &ReadPoint) -> Weighing
     requires run_in { IsRun run.now }
     requires at_in { IsReading run.now at.now }
     ensures { result ≡ weighed at.now.row (growth_terms (in_run run.now) at.now) }
 {
     let now = run.flow(at.row, at.flow);
     let before = run.flow(at.row - 1, at.flow);
-    Weighing::new(at.row).plus_all(&[Term(1, now.a), Term(-1, before.a)])
+    Weighing::new(at.row).plus_all(&[Summand(1, now.a), Summand(-1, before.a)])
 }
 
 /// By how much the arrivals exceed what was served, what was lost and the window.
-#[tactic(auto, using(whole::proofs::Passing::signed))]
-fn over_window(run: &Run, at: &Reading, window: &Lin) -> Weighing
+#[tactic(auto, using(whole::proofs::Overflow::signed))]
+fn over_window(run: &Run, at: &ReadPoint, window: &Lin) -> Weighing
     requires run_in { IsRun run.now }
     requires at_in { IsReading run.now at.now }
     requires window_in { CanSum run.now at.now (Some window.now) }
@@ -80,17 +80,17 @@ fn over_window(run: &Run, at: &Reading, window: &Lin) -> Weighing
     let now = run.flow(at.row, at.flow);
     let heard = run.flow(at.heard, at.flow);
     let terms = [
-        Term(unit, now.a),
-        Term(negated(unit), heard.s),
-        Term(negated(unit), heard.l),
+        Summand(unit, now.a),
+        Summand(negated(unit), heard.s),
+        Summand(negated(unit), heard.l),
     ];
     let start = Weighing::new(at.row).plus_all(&terms);
     plus_lin(start, run, at, Side::Right, scale, window)
 }
 
 /// By how much what the flow sent in this row exceeds the rate.
-#[tactic(auto, using(whole::proofs::Passing::signed))]
-fn over_rate(run: &Run, at: &Reading, rate: &Lin) -> Weighing
+#[tactic(auto, using(whole::proofs::Overflow::signed))]
+fn over_rate(run: &Run, at: &ReadPoint, rate: &Lin) -> Weighing
     requires run_in { IsRun run.now }
     requires at_in { IsReading run.now at.now }
     requires rate_in { CanSum run.now at.now (Some rate.now) }
@@ -100,6 +100,9 @@ fn over_rate(run: &Run, at: &Reading, rate: &Lin) -> Weighing
     let unit = i128::from(scale);
     let now = run.flow(at.row, at.flow);
     let before = run.flow(at.row - 1, at.flow);
-    let start = Weighing::new(at.row).plus_all(&[Term(unit, now.a), Term(negated(unit), before.a)]);
+    let start = Weighing::new(at.row).plus_all(&[
+        Summand(unit, now.a),
+        Summand(negated(unit), before.a),
+    ]);
     plus_lin(start, run, at, Side::Right, scale, rate)
 }

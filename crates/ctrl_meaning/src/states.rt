@@ -10,15 +10,15 @@ ghost use Rattle.ctrl_meaning.specs.Steps.{differing, fired, set_claim};
 use crate::asking::noted;
 use crate::expressions::{plus_lin, scale_with};
 use crate::gates::gate_holds;
-use crate::readings::Reading;
+use crate::readings::ReadPoint;
 use ctrl_types::{Controller, Lin};
 use run_rows::Run;
-use weighing::{Rel5, Side, Term, Weighing, compare};
+use weighing::{Rel5, Side, Summand, Weighing, compare};
 use whole::Stuck;
 
 /// The number of the first rule whose guard holds; all guards are weighed first.
 #[tactic(auto, unfolding(crate::specs::Steps::fired))]
-pub fn fired(controller: &Controller, run: &Run, at: &Reading) -> Result<u32, Stuck>
+pub fn fired(controller: &Controller, run: &Run, at: &ReadPoint) -> Result<u32, Stuck>
     requires { CanStep controller.now run.now at.now }
     ensures { result ≡ fired controller.now run.now at.now }
 {
@@ -36,7 +36,7 @@ pub fn fired(controller: &Controller, run: &Run, at: &Reading) -> Result<u32, St
 pub fn differing(
     controller: &Controller,
     run: &Run,
-    at: &Reading,
+    at: &ReadPoint,
     rule: u32,
 ) -> Result<Option<u32>, Stuck>
     requires can { CanStep controller.now run.now at.now }
@@ -53,7 +53,7 @@ pub fn differing(
 }
 
 /// Whether a state has the value of its expression or, where it has none, the value of the row before.
-fn is_set(run: &Run, at: &Reading, state: u32, set: &Option<Lin>) -> Result<bool, Stuck>
+fn is_set(run: &Run, at: &ReadPoint, state: u32, set: &Option<Lin>) -> Result<bool, Stuck>
     requires run_in { IsRun run.now }
     requires at_in { IsReading run.now at.now }
     requires here { state < length (flow_of run.now at.now.row at.now.flow).x }
@@ -68,8 +68,8 @@ fn is_set(run: &Run, at: &Reading, state: u32, set: &Option<Lin>) -> Result<bool
 }
 
 /// Whether a state has the value of the row before.
-#[tactic(auto, using(whole::proofs::Passing::signed))]
-fn is_kept(run: &Run, at: &Reading, state: u32) -> Result<bool, Stuck>
+#[tactic(auto, using(whole::proofs::Overflow::signed))]
+fn is_kept(run: &Run, at: &ReadPoint, state: u32) -> Result<bool, Stuck>
     requires run_in { IsRun run.now }
     requires at_in { IsReading run.now at.now }
     requires here { state < length (flow_of run.now at.now.row at.now.flow).x }
@@ -78,12 +78,16 @@ fn is_kept(run: &Run, at: &Reading, state: u32) -> Result<bool, Stuck>
 {
     let here = run.state(at.row, at.flow, state);
     let before = run.state(at.states, at.flow, state);
-    compare(at.row, &[Term(1, here), Term(-1, before)], Rel5::Equal)
+    compare(
+        at.row,
+        &[Summand(1, here), Summand(-1, before)],
+        Rel5::Equal,
+    )
 }
 
 /// Whether a state has the value of the expression.
-#[tactic(auto, using(whole::proofs::Passing::signed))]
-fn has_value(run: &Run, at: &Reading, state: u32, lin: &Lin) -> Result<bool, Stuck>
+#[tactic(auto, using(whole::proofs::Overflow::signed))]
+fn has_value(run: &Run, at: &ReadPoint, state: u32, lin: &Lin) -> Result<bool, Stuck>
     requires run_in { IsRun run.now }
     requires at_in { IsReading run.now at.now }
     requires here { state < length (flow_of run.now at.now.row at.now.flow).x }

@@ -3,10 +3,10 @@ ghost use Rattle.whole.specs.declared.answers.Stuck.{Stuck};
 ghost use Rattle.path_server.specs.Limits.{IsSetting};
 ghost use Rattle.ctrl_types.specs.Limits.{IsController};
 ghost use Rattle.ctrl_meaning.specs.Limits.{FitsBoth, IsControlled};
-ghost use Rattle.ctrl_meaning.specs.Meaning.{IsFirstDiffering, IsOtherArrival, IsStep, IsStuckInSend, IsStuckInStep, NothingPasses};
+ghost use Rattle.ctrl_meaning.specs.Meaning.{IsFirstDiffering, IsOtherArrival, IsStep, IsStuckInSend, IsStuckInStep, NothingOverflows};
 ghost use Rattle.ctrl_meaning.specs.Steps.{step, stepping};
 
-use crate::readings::Reading;
+use crate::readings::ReadPoint;
 use crate::send::sent;
 use crate::states::{differing, fired};
 use ctrl_types::Controller;
@@ -23,9 +23,9 @@ pub enum StepHolds {
     State { state: u32 },
     /// All states agree, and the arrival isn't what the window and the rate give.
     Arrival,
-    /// A comparison of a guard or of a state passes 128 bits.
+    /// A comparison of a guard or of a state overflows 128 bits.
     StepWide(Stuck),
-    /// All states agree, and a comparison of the arrival passes 128 bits.
+    /// All states agree, and a comparison of the arrival overflows 128 bits.
     SendWide(Stuck),
 }
 
@@ -46,7 +46,7 @@ pub fn step_holds(
     requires flow_from { 1 ≤ flow }
     requires flow_to { flow ≤ setting.now.flows }
     ensures exact { result ≡ step controller.now setting.now run.now row flow }
-    ensures yes { (rule : ℕ) → (result ≡ StepHolds.Yes rule) ↔ (IsStep controller.now setting.now run.now row flow rule × NothingPasses controller.now setting.now run.now row flow) }
+    ensures yes { (rule : ℕ) → (result ≡ StepHolds.Yes rule) ↔ (IsStep controller.now setting.now run.now row flow rule × NothingOverflows controller.now setting.now run.now row flow) }
     ensures state { (state : ℕ) → (result ≡ StepHolds.State state) ↔ IsFirstDiffering controller.now run.now (stepping setting.now row flow) state }
     ensures arrival { (result ≡ StepHolds.Arrival) ↔ IsOtherArrival controller.now setting.now run.now row flow }
     ensures step_wide { (stuck : Stuck) → (result ≡ StepHolds.StepWide stuck) ↔ IsStuckInStep controller.now setting.now run.now row flow stuck }
@@ -77,7 +77,7 @@ fn examine_step(
     ensures { result ≡ step controller.now setting.now run.now row flow }
 {
     let heard = row - setting.rtt;
-    let stepping = Reading {
+    let stepping = ReadPoint {
         row,
         flow,
         states: row - 1,
@@ -92,7 +92,7 @@ fn examine_step(
         Ok(Some(state)) => return StepHolds::State { state },
         Err(stuck) => return StepHolds::StepWide(stuck),
     }
-    let sending = Reading {
+    let sending = ReadPoint {
         row,
         flow,
         states: row,

@@ -12,7 +12,7 @@ use std::alloc::{AllocError, Global};
 use weighing::{Num, Rel5};
 use whole::Pair;
 
-#[tactic(auto, using(whole::proofs::Passing::signed))]
+#[tactic(auto, using(whole::proofs::Overflow::signed))]
 fn single(alloc: Global, num: i128, of: Source) -> Result<Lin, AllocError>
     ensures { IfOk result (λ lin. lin ≡ example.single num of) }
 {

@@ -16,7 +16,7 @@ use Rattle.condition_syntax.specs.declared.expressions.Name.{Name}
 use Rattle.condition_syntax.specs.declared.expressions.ETerm.{ETerm}
 use Rattle.condition_syntax.specs.Words.{fraction, signed}
 use Rattle.condition_syntax.specs.Trees.{Condition, opposite, conjunction, disjunction, conjoined, disjoined, EachExpr, EachDelay}
-use Rattle.condition_syntax.specs.Printing.{is_conjunction, is_disjunction}
+use Rattle.condition_syntax.specs.CanonicalText.{is_conjunction, is_disjunction}
 use Rattle.condition_syntax.specs.Grammar.{IsNumber, SpellsName, plain, SpellsTerm, constant, multiple, single, joint_of, SpellsTerms, last_term, more_terms, SpellsExpr, unsigned, negative, Joined, one, more, SpellsSimple, truth, falsity, test, compared, SpellsOpened, simple, negated, bracketed as in_brackets, Nothing, SpellsConjunction, SpellsJoined, SpellsPart, SpellsCond}
 use Rattle.condition_syntax.proofs.TextShows.{from_line_parts}
 use Rattle.ctrl_syntax.specs.Limits.{IsPlainName, IsPlainTerm, IsExpr, IsUnsigned, bracketed, nesting, IsCondition}

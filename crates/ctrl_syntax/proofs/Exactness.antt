@@ -14,12 +14,12 @@ use Rattle.ctrl_syntax.specs.Sections.{Sections, sections_of}
 use Rattle.ctrl_syntax.specs.Grammar.{IsText}
 use Rattle.ctrl_syntax.specs.Refused.{states, FirstRefused, IsRefused, no_line, no_header, behind_header}
 use Rattle.ctrl_syntax.specs.Reading.{refusal, sections_by, names_controller, text_by, text_of}
-use Rattle.ctrl_syntax.specs.Seen.{GivesSeenUnless}
+use Rattle.ctrl_syntax.specs.Views.{GivesSeenUnless}
 use Rattle.ctrl_syntax.proofs.SectionsTaken.{header_named, text_spelled}
 use Rattle.ctrl_syntax.proofs.SectionsAgain.{rest_of, text_again}
 use Rattle.ctrl_syntax.proofs.Places.{sections_walk}
 use Rattle.ctrl_syntax.proofs.PartRefusals.{err_is}
-use Rattle.ctrl_syntax.proofs.Walks.{drop, first_is_read, read_is_first}
+use Rattle.ctrl_syntax.proofs.RefusalOrder.{drop, first_is_read, read_is_first}
 
 -- ---- the text is refused as its lines are
 

@@ -6,7 +6,7 @@ pub mod SectionsAgain
 pub mod Places
 pub mod ManyLoop
 pub mod PartRefusals
-pub mod Walks
+pub mod RefusalOrder
 pub mod Exactness
 pub mod LineTexts
 pub mod SectionTexts

@@ -18,8 +18,8 @@ use Rattle.condition_syntax.specs.declared.conditions.Style.TheVariants.{Control
 use Rattle.condition_syntax.specs.Words.{signed}
 use Rattle.condition_syntax.specs.Trees.{Condition}
 use Rattle.condition_syntax.specs.Grammar.{IsNumber}
-use Rattle.condition_syntax.specs.Printing.{number_text, expr_text, condition_text}
-use Rattle.condition_syntax.specs.Printed.{Shows, Prints}
+use Rattle.condition_syntax.specs.CanonicalText.{number_text, expr_text, condition_text}
+use Rattle.condition_syntax.specs.CanonicalTokens.{Shows, Prints}
 use Rattle.condition_syntax.proofs.TextShows.{shows_word, shows_spaced, shows_word_then, shows_sign_then, shows_sign_tight}
 use Rattle.condition_syntax.proofs.ExpressionTexts.{sign_kept, number_prints, expr_prints}
 use Rattle.condition_syntax.proofs.ConditionTexts.{condition_prints}

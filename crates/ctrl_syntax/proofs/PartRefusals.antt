@@ -14,7 +14,7 @@ use Rattle.condition_syntax.specs.declared.conditions.Style.TheVariants.{Control
 use Rattle.condition_syntax.specs.declared.expressions.ETerm.{ETerm}
 use Rattle.condition_syntax.specs.declared.faults.Fault.{Fault}
 use Rattle.condition_syntax.specs.declared.faults.Fault.TheVariants.{Number}
-use Rattle.condition_syntax.specs.Refusals.{rule}
+use Rattle.condition_syntax.specs.RefusalRules.{rule}
 use Rattle.condition_syntax.specs.Fronts.{stands, says}
 use Rattle.condition_syntax.specs.Words.{fraction, signed}
 use Rattle.condition_syntax.specs.Expressions.{number_of, is_within, expr_by}

@@ -12,7 +12,7 @@ use Rattle.ctrl_syntax.specs.declared.syntax.SetLine.{SetLine}
 use Rattle.ctrl_syntax.specs.declared.syntax.RateLine.{RateLine}
 use Rattle.ctrl_syntax.specs.Rest.{Rest, first_says, number_of_next}
 use Rattle.ctrl_syntax.specs.Sections.{Rule, Sections}
-use Rattle.ctrl_syntax.specs.Refused.{Place, states, rules, window, rate, end}
+use Rattle.ctrl_syntax.specs.Refused.{Section, states, rules, window, rate, end}
 use Rattle.ctrl_syntax.specs.Reading.{refusal, lacks, state_at, head_at, set_at, titled_at, end_at, Lines, line_by, titled_by, many_within, many_by, sets_by, rule_by, rate_by, nothing_left, sections_by}
 use Rattle.ctrl_syntax.proofs.SectionsAgain.{rest_of}
 
@@ -42,7 +42,7 @@ from_rules n s = sets_by s >>= λ y. more_rules (16 - n) y.1
 abbrev pub from_states : ℕ → Rest → Outcome
 from_states n s = many_by (codes "state") (line_by state_at) (8 - n) s >>= λ x. more_rules 16 x.1
 
-abbrev pub reading : Place → Rest → Outcome
+abbrev pub reading : Section → Rest → Outcome
 reading (states n) s = from_states n s
 reading (rules n) s = from_rules n s
 reading window s = from_window s
@@ -51,16 +51,16 @@ reading end s = from_end s
 
 -- ---- what a line does
 
-abbrev pub moves : {X : Type 0} → Result X Refusal → Place → Result Place Refusal
+abbrev pub moves : {X : Type 0} → Result X Refusal → Section → Result Section Refusal
 moves read next = read >>= λ x. Ok next
 
-abbrev pub rule_or_window : ℕ → Ahead → Result Place Refusal
+abbrev pub rule_or_window : ℕ → Ahead → Result Section Refusal
 rule_or_window n a =
     if says (codes "rule") a.tokens then (if nat_le 16 n then Err (refusal 11 a.line) else moves (head_at a) (rules (suc n)))
     else if says (codes "window") a.tokens then moves (titled_at a) window
     else Err (lacks 3 a)
 
-abbrev pub step : Place → Ahead → Result Place Refusal
+abbrev pub step : Section → Ahead → Result Section Refusal
 step (states n) a =
     if says (codes "state") a.tokens then (if nat_le 8 n then Err (refusal 11 a.line) else moves (state_at a) (states (suc n)))
     else rule_or_window 0 a
@@ -73,7 +73,7 @@ step rate a = if says (codes "end") a.tokens then moves (end_at a) end else Err 
 step end a = Err (refusal 13 a.line)
 
 -- the walk goes on from where the line led
-abbrev pub onward : Result Place Refusal → Rest → Outcome
+abbrev pub onward : Result Section Refusal → Rest → Outcome
 onward moved s = moved >>= λ next. reading next s
 
 -- ---- reading is the walk
@@ -132,7 +132,7 @@ unfolding many_within
 many_full {X} over title read s k named = ap (λ (b : Bool). on (cond b (full X over s) (none_of X s)) k) named
 
 -- the next line was read
-line_onward : {X : Type 0} (read : Ahead → Result X Refusal) (a : Ahead) (lines : List Ahead) (finish : ℕ) (next : Place) (k : Rest → Outcome)
+line_onward : {X : Type 0} (read : Ahead → Result X Refusal) (a : Ahead) (lines : List Ahead) (finish : ℕ) (next : Section) (k : Rest → Outcome)
     → (k (rest_of lines finish) ≡ reading next (rest_of lines finish))
     → (line_by read (rest_of (a ∷ lines) finish) >>= λ x. k x.1) ≡ onward (moves (read a) next) (rest_of lines finish)
 unfolding line_by
@@ -257,7 +257,7 @@ unfolding nothing_left
 behind_steps a lines finish = refl
 
 -- a place that can be reached
-abbrev pub IsPlace : Place → Type 0
+abbrev pub IsPlace : Section → Type 0
 IsPlace (states n) = n ≤ 8
 IsPlace (rules n) = n ≤ 16
 IsPlace window = Unit {0}
@@ -265,7 +265,7 @@ IsPlace rate = Unit {0}
 IsPlace end = Unit {0}
 
 -- reading does what the line does, and goes on from where it led
-pub reading_steps : (at : Place) (a : Ahead) (lines : List Ahead) (finish : ℕ) → IsPlace at → reading at (rest_of (a ∷ lines) finish) ≡ onward (step at a) (rest_of lines finish)
+pub reading_steps : (at : Section) (a : Ahead) (lines : List Ahead) (finish : ℕ) → IsPlace at → reading at (rest_of (a ∷ lines) finish) ≡ onward (step at a) (rest_of lines finish)
 reading_steps (states n) a lines finish le = states_step a lines finish n le
 reading_steps (rules n) a lines finish le = sets_step a lines finish n le
 reading_steps window a lines finish le = rate_steps a lines finish
@@ -296,7 +296,7 @@ window_ended : (finish : ℕ) → from_window (rest_of [] finish) ≡ Err (refus
 unfolding rate_by
 window_ended finish = last_ended finish
 
-pub ended_early : (at : Place) (finish : ℕ) → at ≢ end → reading at (rest_of [] finish) ≡ Err (refusal 14 finish)
+pub ended_early : (at : Section) (finish : ℕ) → at ≢ end → reading at (rest_of [] finish) ≡ Err (refusal 14 finish)
 ended_early (states n) finish before = states_ended (8 - n) finish
 ended_early (rules n) finish before = sets_ended n finish
 ended_early window finish before = window_ended finish

@@ -3,7 +3,7 @@ pub mod Sections
 pub mod Grammar
 pub mod Taken
 pub mod Reading
-pub mod Seen
+pub mod Views
 pub mod Refused
 pub mod Limits
 pub mod Printed

@@ -4,7 +4,7 @@ use Rattle.source_text.specs.Spelling.{is_word}
 use Rattle.weighing.specs.Scaled.{IsNum}
 use Rattle.weighing.specs.declared.scales.Num.{Num}
 use Rattle.condition_syntax.specs.Words.{is_keyword}
-use Rattle.condition_syntax.specs.Printing.{is_conjunction, is_disjunction}
+use Rattle.condition_syntax.specs.CanonicalText.{is_conjunction, is_disjunction}
 use Rattle.condition_syntax.specs.Trees.{Condition, always, never, leaf, compares, delayed, opposite, end_of_all, all_of, end_of_any, any_of, comparisons, condition_of, EachExpr, EachDelay}
 use Rattle.condition_syntax.specs.declared.conditions.Cond.{Cond}
 use Rattle.condition_syntax.specs.declared.expressions.Expr.{Expr}

@@ -3,7 +3,7 @@ use Rattle.std.specs.Prelude.{ℕ, pos, int_lt, List, [], ◌++◌, flat_map, Bo
 use Rattle.weighing.specs.declared.scales.Num.{Num}
 use Rattle.condition_syntax.specs.declared.expressions.Expr.{Expr}
 use Rattle.condition_syntax.specs.Trees.{Condition}
-use Rattle.condition_syntax.specs.Printing.{number_text, expr_text, condition_text}
+use Rattle.condition_syntax.specs.CanonicalText.{number_text, expr_text, condition_text}
 use Rattle.ctrl_syntax.specs.declared.syntax.StateLine.{StateLine}
 use Rattle.ctrl_syntax.specs.declared.syntax.SetLine.{SetLine}
 use Rattle.ctrl_syntax.specs.declared.syntax.RateLine.{RateLine}

@@ -14,7 +14,7 @@ use Rattle.condition_syntax.specs.declared.conditions.Style.TheVariants.{Control
 use Rattle.condition_syntax.specs.declared.expressions.ETerm.{ETerm}
 use Rattle.condition_syntax.specs.declared.faults.Fault.{Fault}
 use Rattle.condition_syntax.specs.Fronts.{stands, says}
-use Rattle.condition_syntax.specs.Refusals.{refusal as fault_refusal}
+use Rattle.condition_syntax.specs.RefusalRules.{refusal as fault_refusal}
 use Rattle.condition_syntax.specs.Words.{signed}
 use Rattle.condition_syntax.specs.Expressions.{number_of, expr_by}
 use Rattle.condition_syntax.specs.Conditions.{condition_by}

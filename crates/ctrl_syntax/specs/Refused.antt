@@ -10,8 +10,8 @@ use Rattle.weighing.specs.declared.scales.Num.{Num}
 use Rattle.condition_syntax.specs.declared.conditions.Style.TheVariants.{Controller}
 use Rattle.condition_syntax.specs.declared.expressions.ETerm.{ETerm}
 use Rattle.condition_syntax.specs.declared.faults.Fault.{Fault}
-use Rattle.condition_syntax.specs.Refusals.{rule}
-use Rattle.condition_syntax.specs.Refused.{RefusesExpr, RefusesCond}
+use Rattle.condition_syntax.specs.RefusalRules.{rule}
+use Rattle.condition_syntax.specs.WrongTokens.{RefusesExpr, RefusesCond}
 use Rattle.condition_syntax.specs.Trees.{Condition}
 use Rattle.condition_syntax.specs.Grammar.{IsNumber, SpellsExpr, SpellsCond}
 use Rattle.condition_syntax.specs.Ends.{Taken, EndsExpr, EndsCond}
@@ -82,15 +82,15 @@ pub data LineStops : List Part → List Token → ℕ → Type 0 where
 -- ---- the lines
 
 -- where in the text a line stands: behind so many states, behind so many rules, or behind the window, the rate or `end`
-pub data Place : Type 0 where
-  states : ℕ → Place
-  rules : ℕ → Place
-  window : Place
-  rate : Place
-  end : Place
+pub data Section : Type 0 where
+  states : ℕ → Section
+  rules : ℕ → Section
+  window : Section
+  rate : Section
+  end : Section
 
 -- A line word that may stand at a place, what has to follow it, and the place behind that line.
-pub data Allows : Place → List ℕ → List Part → Place → Type 0 where
+pub data Allows : Section → List ℕ → List Part → Section → Type 0 where
   a_state : {n : ℕ} → n < 8 → Allows (states n) (codes "state") (name 4 ∷ kind ∷ said (codes "init") 4 ∷ bound ∷ bound ∷ []) (states (suc n))
   first_rule : {n : ℕ} → Allows (states n) (codes "rule") (guard ∷ []) (rules 1)
   next_rule : {n : ℕ} → n < 16 → Allows (rules n) (codes "rule") (guard ∷ []) (rules (suc n))
@@ -102,24 +102,24 @@ pub data Allows : Place → List ℕ → List Part → Place → Type 0 where
   an_end : Allows rate (codes "end") [] end
 
 -- one state or rule too many
-pub data Exceeds : Place → List ℕ → Type 0 where
+pub data Exceeds : Section → List ℕ → Type 0 where
   states_full : Exceeds (states 8) (codes "state")
   rules_full : Exceeds (rules 16) (codes "rule")
 
 -- the line that stands there is refused by the rule of this number
-pub data Refuses : Place → List Token → ℕ → Type 0 where
-  malformed : {at next : Place} {w : List ℕ} {ps : List Part} {tokens : List Token} {n : ℕ} → Allows at w ps next → LineStops ps tokens n → Refuses at (word w ∷ tokens) n
-  too_many : {at : Place} {w : List ℕ} {tokens : List Token} → Exceeds at w → Refuses at (word w ∷ tokens) 11
-  stray : {at : Place} {tokens : List Token} → at ≢ end
-      → ((w : List ℕ) (ps : List Part) (next : Place) → Allows at w ps next → IsFront (word w) tokens → ⊥) → ((w : List ℕ) → Exceeds at w → IsFront (word w) tokens → ⊥)
+pub data Refuses : Section → List Token → ℕ → Type 0 where
+  malformed : {at next : Section} {w : List ℕ} {ps : List Part} {tokens : List Token} {n : ℕ} → Allows at w ps next → LineStops ps tokens n → Refuses at (word w ∷ tokens) n
+  too_many : {at : Section} {w : List ℕ} {tokens : List Token} → Exceeds at w → Refuses at (word w ∷ tokens) 11
+  stray : {at : Section} {tokens : List Token} → at ≢ end
+      → ((w : List ℕ) (ps : List Part) (next : Section) → Allows at w ps next → IsFront (word w) tokens → ⊥) → ((w : List ℕ) → Exceeds at w → IsFront (word w) tokens → ⊥)
       → Refuses at tokens (rule_at 3 tokens)
   behind_end : {tokens : List Token} → Refuses end tokens 13
 
 -- the first of the lines that is refused, or the text's end before `end`
-pub data FirstRefused (finish : ℕ) : Place → List Ahead → Refusal → Type 0 where
-  unfinished : {at : Place} → at ≢ end → FirstRefused finish at [] (refusal 14 finish)
-  here : {at : Place} {a : Ahead} {lines : List Ahead} {n : ℕ} → Refuses at a.tokens n → FirstRefused finish at (a ∷ lines) (refusal n a.line)
-  further : {at next : Place} {a : Ahead} {lines : List Ahead} {w : List ℕ} {ps : List Part} {tokens : List Token} {r : Refusal}
+pub data FirstRefused (finish : ℕ) : Section → List Ahead → Refusal → Type 0 where
+  unfinished : {at : Section} → at ≢ end → FirstRefused finish at [] (refusal 14 finish)
+  here : {at : Section} {a : Ahead} {lines : List Ahead} {n : ℕ} → Refuses at a.tokens n → FirstRefused finish at (a ∷ lines) (refusal n a.line)
+  further : {at next : Section} {a : Ahead} {lines : List Ahead} {w : List ℕ} {ps : List Part} {tokens : List Token} {r : Refusal}
       → Allows at w ps next → a.tokens ≡ word w ∷ tokens → LineGoes ps tokens → FirstRefused finish next lines r → FirstRefused finish at (a ∷ lines) r
 
 -- the bytes are no controller's text, by the first rule that they break

@@ -1,8 +1,8 @@
 //! The lines of a controller, each from its front on.
 ghost use Rattle.std.specs.Prelude.{◌≡◌, MatchResult, Ok, Err};
 ghost use Rattle.text_lines.specs.Steps.{GivesUnless};
-ghost use Rattle.condition_syntax.specs.Refusals.{GivesRead};
-ghost use Rattle.ctrl_syntax.specs.Seen.{GivesSeenUnless};
+ghost use Rattle.condition_syntax.specs.RefusalRules.{GivesRead};
+ghost use Rattle.ctrl_syntax.specs.Views.{GivesSeenUnless};
 ghost use Rattle.ctrl_syntax.specs.Sections.{guard_of};
 ghost use Rattle.ctrl_syntax.specs.Reading.{state_at, guard_at, head_at, set_at, titled_at, end_at};
 

@@ -1,7 +1,7 @@
 //! The parts of lines, read from the left.
 ghost use Rattle.std.specs.Prelude.{◌≡◌, MatchResult, Ok, Err};
 ghost use Rattle.text_lines.specs.Steps.{Gives};
-ghost use Rattle.condition_syntax.specs.Refusals.{GivesRead};
+ghost use Rattle.condition_syntax.specs.RefusalRules.{GivesRead};
 ghost use Rattle.condition_syntax.specs.Trees.{condition_of};
 ghost use Rattle.ctrl_syntax.specs.Reading.{expr_at, condition_at, name_at, word_at, kind_at, number_at, bound_at, assign_at, done_at};
 

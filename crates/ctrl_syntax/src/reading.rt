@@ -1,7 +1,7 @@
 ghost use Rattle.std.specs.Prelude.{◌≡◌, ◌^◌, ◌<◌, ◌-◌, ℕ, List, length, IfOk, IsErrOf, Ok, Err};
 ghost use Rattle.whole.specs.declared.answers.Refusal.{Refusal};
 ghost use Rattle.source_text.specs.Header.{texts};
-ghost use Rattle.ctrl_syntax.specs.Seen.{GivesSeenUnless};
+ghost use Rattle.ctrl_syntax.specs.Views.{GivesSeenUnless};
 ghost use Rattle.ctrl_syntax.specs.Sections.{Sections, sections_of};
 ghost use Rattle.ctrl_syntax.specs.Grammar.{IsText};
 ghost use Rattle.ctrl_syntax.specs.Limits.{IsSyntax};
@@ -18,7 +18,7 @@ use whole::ReadFault;
 
 /// What a controller's text says; where the bytes are no such text, the first rule that they break, by the line:
 /// G1 the header, G2 a byte that begins no token, G3 a line word, G4 the form of a `state` line, G5 of a `rule` line,
-/// G6 of a `set` line, G7 a number that passes 1,000,000 over 1 to 1,000, G8 a term, G9 a part of a condition, G10 the
+/// G6 of a `set` line, G7 a number that exceeds 1,000,000 over 1 to 1,000, G8 a term, G9 a part of a condition, G10 the
 /// 17th nesting, G11 the 9th state, the 17th rule, term or comparison or a name of more than 16 letters, G12 a token
 /// behind a finished line, G13 a line behind `end`, G14 a missing `end`.
 pub fn read(alloc: Global, bytes: &[u8]) -> Result<Syntax, ReadFault>

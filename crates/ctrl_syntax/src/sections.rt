@@ -1,8 +1,8 @@
 //! The lines of a controller's text, section by section.
 ghost use Rattle.std.specs.Prelude.{◌≡◌, suc, [], ◌∷◌, codes, length, IfOk, MatchResult, Ok, Err};
 ghost use Rattle.text_lines.specs.Steps.{Gives, GivesRestUnless};
-ghost use Rattle.condition_syntax.specs.Refusals.{GivesRead};
-ghost use Rattle.ctrl_syntax.specs.Seen.{GivesSeenUnless};
+ghost use Rattle.condition_syntax.specs.RefusalRules.{GivesRead};
+ghost use Rattle.ctrl_syntax.specs.Views.{GivesSeenUnless};
 ghost use Rattle.ctrl_syntax.specs.Sections.{guard_of, rule_of, rules_of, sections_of};
 ghost use Rattle.ctrl_syntax.specs.Reading.{refusal, state_at, head_at, set_at, titled_at, end_at, line_by, titled_by, many_by, sets_by, rule_by, rate_by, nothing_left, sections_by};
 

@@ -124,7 +124,7 @@ limited (n ∷ nums) s scale each =
 
 -- with the numbers of a line more
 pub record IsJoined (before nums : List Num) (found : Option ℕ) : Type 0 where
-  pub passes : nat_lt 1000000 (least_common (before ++ nums)) ≡ is_none found
+  pub exceeds : nat_lt 1000000 (least_common (before ++ nums)) ≡ is_none found
   pub gives : (next : ℕ) → found ≡ Some next → IsDen (before ++ nums) next
 
 pub is_joined : (before nums : List Num) (den : ℕ) → IsDen before den → All IsNum nums → IsJoined before nums (with_numbers (Some den) nums)
@@ -135,11 +135,11 @@ is_joined before nums den is each =
   where
     by : (found : Option ℕ) (l : ℕ) → IsLimited l found → fold common 1 (before ++ nums) ≡ l → IsJoined before nums found
     by _ l (past large) e = record {
-      passes = rw e (grind (arith, common_steps));
+      exceeds = rw e (grind (arith, common_steps));
       gives = λ next q. absurd (cc);
     }
     by _ l (within scale) e = record {
-      passes = let small = scale.to in rw e (grind (arith, common_steps));
+      exceeds = let small = scale.to in rw e (grind (arith, common_steps));
       gives = λ next q. let same : next ≡ l = cc in record { is = same ∙ sym e; scale = subst IsScale (sym same) scale };
     }
 

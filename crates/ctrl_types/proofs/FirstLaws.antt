@@ -12,7 +12,7 @@ use Rattle.ctrl_types.specs.declared.breaches.Breach.{Breach}
 use Rattle.ctrl_types.specs.declared.breaches.Breach.TheVariants.{Reserved, Unknown, Kinds, Bounds, Twice, Otherwise, Delay, Denominators, Count}
 use Rattle.ctrl_types.specs.Resolving.{demand, on_line}
 use Rattle.ctrl_types.specs.Statements.{IsFirstBroken, IsUnbroken, IsWhole, Statement, breaks, line_of, number_of, refusal_of, statements}
-use Rattle.ctrl_types.proofs.Agreement.{asked, breaches, judged, verdict}
+use Rattle.ctrl_types.proofs.EndAlike.{asked, breaches, judged, verdict}
 
 -- ---- the rules by their numbers
 

@@ -17,7 +17,7 @@ use Rattle.ctrl_types.specs.Resolved as resolved
 use Rattle.ctrl_types.specs.Resolved.{Means, greatest_delay}
 use Rattle.ctrl_types.specs.Resolving.{demand, gate_by, comparison_by, lin_numbers, with_comparison, with_delay, with_lin}
 use Rattle.ctrl_types.specs.Statements.{any_comparison, any_delay, condition_numbers, coefs, is_unfit, mixed_sides, unknown_sides, rows_of}
-use Rattle.ctrl_types.proofs.Agreement.{Agrees, fine, agrees_then, agrees_map, agrees_wanted, demand-or}
+use Rattle.ctrl_types.proofs.EndAlike.{Agrees, fine, agrees_then, agrees_map, agrees_wanted, demand-or}
 use Rattle.ctrl_types.proofs.DenominatorLaws.{numbers-append}
 use Rattle.ctrl_types.proofs.NameLaws.{unknown_is, lin_is_found, found_numbers, sides_mix}
 

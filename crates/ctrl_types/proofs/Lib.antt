@@ -2,7 +2,7 @@ mod TreeLaws
 pub mod DenominatorLaws
 mod LoopLaws
 mod LineLoops
-pub mod Agreement
+pub mod EndAlike
 mod NameLaws
 pub mod KindLaws
 mod GuardLaws

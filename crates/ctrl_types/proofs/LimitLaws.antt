@@ -20,7 +20,7 @@ use Rattle.ctrl_types.specs.declared.expressions.LinTerm.{LinTerm}
 use Rattle.ctrl_types.specs.Limits.{LinsAre, NumsAre, OptionalLin, RuleLins}
 use Rattle.ctrl_types.specs.Resolved.{RateMeans, RuleMeans}
 use Rattle.ctrl_types.specs.Resolving.{SeenRule, controller_seen, rule_seen, state_of}
-use Rattle.ctrl_types.specs.Statements.{Saying, state, rule, assignment, window, rate, coefs, condition_numbers, guard_numbers, is_empty, numbers, rate_sayings, rule_sayings, sayings, set_sayings, state_sayings}
+use Rattle.ctrl_types.specs.Statements.{LineContent, state, rule, assignment, window, rate, coefs, condition_numbers, guard_numbers, is_empty, numbers, rate_sayings, rule_sayings, sayings, set_sayings, state_sayings}
 use Rattle.ctrl_types.proofs.DenominatorLaws.{numbers_are}
 use Rattle.ctrl_types.proofs.NameLaws.{AreFound, coefs_are, found_length, lin_is_found}
 use Rattle.ctrl_types.proofs.NameLaws as names
@@ -160,14 +160,14 @@ module _ (sections : Sections) (c : Controller) (read : IsRead sections (control
 -- ---- the numbers of a text as one list
 
 module _ (P : Num → Type 0) where
-  abbrev SaysNums : Saying → Type 0
+  abbrev SaysNums : LineContent → Type 0
   SaysNums x = All P (numbers x)
 
-  flat_to : (xs : List Saying) → All SaysNums xs → All P (flat_map numbers xs)
+  flat_to : (xs : List LineContent) → All SaysNums xs → All P (flat_map numbers xs)
   flat_to [] all = All-nil P
   flat_to (x ∷ xs) all = All-append P (numbers x) (flat_map numbers xs) (All-head SaysNums x xs all) (flat_to xs (All-tail SaysNums x xs all))
 
-  flat_from : (xs : List Saying) → All P (flat_map numbers xs) → All SaysNums xs
+  flat_from : (xs : List LineContent) → All P (flat_map numbers xs) → All SaysNums xs
   flat_from [] all = All-nil SaysNums
   flat_from (x ∷ xs) all = All-cons SaysNums x xs (all_left P (numbers x) (flat_map numbers xs) all) (flat_from xs (all_right P (numbers x) (flat_map numbers xs) all))
 
@@ -248,7 +248,7 @@ module _ (P : Num → Type 0) where
   pub text_to : (sections : Sections) → TextNums P sections → All P (flat_map numbers (sayings sections))
   unfolding sayings
   text_to sections are =
-      let w : Saying = window sections.rules sections.window sections.window_line in
+      let w : LineContent = window sections.rules sections.window sections.window_line in
       flat_to (sayings sections) (All-append SaysNums (state_sayings [] sections.states) (rule_sayings sections.rules ++ (w ∷ rate_sayings sections.rate)) (states_to [] sections.states are.states)
       (All-append SaysNums (rule_sayings sections.rules) (w ∷ rate_sayings sections.rate) (rules_to sections.rules are.exprs.rules)
       (All-cons SaysNums w (rate_sayings sections.rate) are.exprs.window (rate_to sections.rate are.exprs.rate))))
@@ -256,7 +256,7 @@ module _ (P : Num → Type 0) where
   pub text_from : (sections : Sections) → All P (flat_map numbers (sayings sections)) → TextNums P sections
   unfolding sayings
   text_from sections all =
-      let w : Saying = window sections.rules sections.window sections.window_line in
+      let w : LineContent = window sections.rules sections.window sections.window_line in
       let says = flat_from (sayings sections) all in
       let later = all_right SaysNums (state_sayings [] sections.states) (rule_sayings sections.rules ++ (w ∷ rate_sayings sections.rate)) says in
       let ends = all_right SaysNums (rule_sayings sections.rules) (w ∷ rate_sayings sections.rate) later in

@@ -13,8 +13,8 @@ use Rattle.ctrl_syntax.specs.declared.syntax.SetLine.{SetLine}
 use Rattle.ctrl_syntax.specs.declared.syntax.RuleLine.{RuleLine}
 use Rattle.ctrl_syntax.specs.Sections.{rule_of, rules_of}
 use Rattle.ctrl_types.specs.declared.breaches.Breach.{Breach}
-use Rattle.ctrl_types.specs.declared.breaches.Halt.{Halt}
-use Rattle.ctrl_types.specs.declared.breaches.Halt.TheVariants as halts
+use Rattle.ctrl_types.specs.declared.breaches.ResolveStop.{ResolveStop}
+use Rattle.ctrl_types.specs.declared.breaches.ResolveStop.TheVariants as halts
 use Rattle.ctrl_types.specs.declared.controllers.State.{State}
 use Rattle.ctrl_types.specs.declared.surveys.Totals.{Totals}
 use Rattle.ctrl_types.specs.Names.{has_name}
@@ -58,7 +58,7 @@ module _ (lines : List StateLine) (i den : ℕ) (front : List State) (total : Re
       let one : with_front front (states_by (take i lines) (drop i lines) den) ≡ Err (refusal_of breach s.line) = rw (rest, read) refl in
       sym so_far ∙ one
 
-  pub states_fail : (s : StateLine) (is_taken : Bool) (halt : Halt) → s ≡ get_or lines i s → i < length lines
+  pub states_fail : (s : StateLine) (is_taken : Bool) (halt : ResolveStop) → s ≡ get_or lines i s → i < length lines
       → is_taken ≡ list_any (has_name s.name) (take i lines) → Halts halt (state_by is_taken s den) → Fails (fault_of halt s.line) total
   states_fail s is_taken halts.NoMemory here inside taken is = tt
   states_fail s is_taken (halts.Broken breach) here inside taken is = states_stop s is_taken breach here inside taken is
@@ -88,7 +88,7 @@ module _ (states : List StateLine) (lines : List SetLine) (i : ℕ) (places : Pl
       let one : sets_by states (drop i lines) places den ≡ Err (refusal_of breach s.line) = rw (rest, read) refl in
       sym so_far ∙ one
 
-  pub sets_fail : (s : SetLine) (halt : Halt) → s ≡ get_or lines i s → i < length lines → Halts halt (set_by states s places den) → Fails (fault_of halt s.line) total
+  pub sets_fail : (s : SetLine) (halt : ResolveStop) → s ≡ get_or lines i s → i < length lines → Halts halt (set_by states s places den) → Fails (fault_of halt s.line) total
   sets_fail s halts.NoMemory here inside read = tt
   sets_fail s (halts.Broken breach) here inside read = sets_stop s breach here inside read
 

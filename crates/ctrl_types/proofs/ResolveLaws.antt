@@ -15,7 +15,7 @@ use Rattle.ctrl_types.specs.Limits.{IsController}
 use Rattle.ctrl_types.specs.Resolved.{RefusesUnless, Resolves, SeenResolves}
 use Rattle.ctrl_types.specs.Resolving.{GivesSeenUnless, SeenController, controller_by, controller_seen}
 use Rattle.ctrl_types.specs.Statements.{IsFirstBroken, IsUnbroken, statements}
-use Rattle.ctrl_types.proofs.Agreement.{Agrees, fine, stops, judged}
+use Rattle.ctrl_types.proofs.EndAlike.{Agrees, fine, stops, judged}
 use Rattle.ctrl_types.proofs.ControllerLaws.{controller_is}
 use Rattle.ctrl_types.proofs.FirstLaws.{broken_again, first_broken, unbroken, unbroken_again}
 use Rattle.ctrl_types.proofs.TextLaws.{IsRead, text_agrees}

@@ -25,30 +25,30 @@ use Rattle.ctrl_types.specs.Names.{has_name, is_reserved, state_named, has_unkno
 use Rattle.ctrl_types.specs.Denominators.{with_numbers}
 use Rattle.ctrl_types.specs.Resolved.{GuardMeans, guard_delay, greatest_delay, place_of}
 use Rattle.ctrl_types.specs.Resolving.{Places, bound_by, condition_by, demand, guard_by, is_filled, lin_has, lin_numbers, set_by, set_mixes, state_by, state_of, surveyed, survey_from, wanted, with_lin}
-use Rattle.ctrl_types.specs.Statements.{Saying, Statement, state, rule, assignment, window, rate, any_comparison, any_delay, coefs, condition_numbers, ends_otherwise, guard_numbers, in_guard, is_above, is_unfit, mixed_sides, numbers, passes_limit, sets_name}
-use Rattle.ctrl_types.proofs.Agreement.{Agrees, fine, agrees_then, agrees_map, agrees_wanted, agrees_weaker, agrees_demand, agrees_same, agrees_or, verdict}
+use Rattle.ctrl_types.specs.Statements.{LineContent, Statement, state, rule, assignment, window, rate, any_comparison, any_delay, coefs, condition_numbers, ends_otherwise, guard_numbers, in_guard, is_above, is_unfit, mixed_sides, numbers, exceeds_limit, sets_name}
+use Rattle.ctrl_types.proofs.EndAlike.{Agrees, fine, agrees_then, agrees_map, agrees_wanted, agrees_weaker, agrees_demand, agrees_same, agrees_or, verdict}
 use Rattle.ctrl_types.proofs.DenominatorLaws.{IsDen, is_joined, each_expr_gives, numbers_are}
 use Rattle.ctrl_types.proofs.NameLaws.{unknown_is, lin_is_found, found_numbers, kinds_are, sets_mix, bounds_mix, coefs_are}
 use Rattle.ctrl_types.proofs.GuardLaws.{gate_agrees}
 use Rattle.ctrl_types.proofs.StateLaws.{AreDistinct, AreResolved, filled_is, filled_with, resolved_push}
 
-abbrev pub said : Saying → List Num → Statement
+abbrev pub said : LineContent → List Num → Statement
 said says before = record { says = says; before = before }
 
 -- the denominators of a line
 limit_agrees : (x : Statement) (den : ℕ) → IsDen x.before den → All IsNum (numbers x.says)
-    → Agrees (λ next. IsDen (x.before ++ numbers x.says) next) (wanted (with_numbers (Some den) (numbers x.says)) Denominators) (demand (passes_limit x) Denominators)
-unfolding passes_limit
+    → Agrees (λ next. IsDen (x.before ++ numbers x.says) next) (wanted (with_numbers (Some den) (numbers x.says)) Denominators) (demand (exceeds_limit x) Denominators)
+unfolding exceeds_limit
 limit_agrees x den is each =
     let joined = is_joined x.before (numbers x.says) den is each in
-    agrees_weaker (agrees_wanted (with_numbers (Some den) (numbers x.says)) _ Denominators joined.passes) (λ next found. joined.gives next found.0)
+    agrees_weaker (agrees_wanted (with_numbers (Some den) (numbers x.says)) _ Denominators joined.exceeds) (λ next found. joined.gives next found.0)
 
 -- the same of an expression that is found
 lin_limit_agrees : (x : Statement) (den : ℕ) (lin : Lin) → lin_numbers lin ≡ numbers x.says → IsDen x.before den → All IsNum (numbers x.says)
-    → Agrees (λ next. IsDen (x.before ++ numbers x.says) next) (wanted (with_lin (Some den) lin) Denominators) (demand (passes_limit x) Denominators)
+    → Agrees (λ next. IsDen (x.before ++ numbers x.says) next) (wanted (with_lin (Some den) lin) Denominators) (demand (exceeds_limit x) Denominators)
 unfolding with_lin
 lin_limit_agrees x den lin same is each =
-    subst (λ (nums : List Num). Agrees (λ next. IsDen (x.before ++ numbers x.says) next) (wanted (with_numbers (Some den) nums) Denominators) (demand (passes_limit x) Denominators)) (sym same)
+    subst (λ (nums : List Num). Agrees (λ next. IsDen (x.before ++ numbers x.says) next) (wanted (with_numbers (Some den) nums) Denominators) (demand (exceeds_limit x) Denominators)) (sym same)
     (limit_agrees x den is each)
 
 two_nums : (a b : Num) → IsNum a → IsNum b → All IsNum (a ∷ b ∷ [])
@@ -117,11 +117,11 @@ record IsLeft (tree : Condition) (totals : Totals) (before : List Num) (x : Tota
   delay_max : x.delay_max ≡ greatest_delay totals.delay_max tree
   den : IsDen (before ++ condition_numbers tree) x.den
 
--- a line without numbers passes no limit
-no_limit : (x : Statement) (den : ℕ) → numbers x.says ≡ [] → IsDen x.before den → Agrees {X = ℕ} (λ next. IsDen (x.before ++ numbers x.says) next) (Ok den) (demand (passes_limit x) Denominators)
+-- a line without numbers exceeds no limit
+no_limit : (x : Statement) (den : ℕ) → numbers x.says ≡ [] → IsDen x.before den → Agrees {X = ℕ} (λ next. IsDen (x.before ++ numbers x.says) next) (Ok den) (demand (exceeds_limit x) Denominators)
 unfolding with_numbers
 no_limit x den none is =
-    subst (λ (nums : List Num). Agrees (λ next. IsDen (x.before ++ numbers x.says) next) (wanted (with_numbers (Some den) nums) Denominators) (demand (passes_limit x) Denominators)) none
+    subst (λ (nums : List Num). Agrees (λ next. IsDen (x.before ++ numbers x.says) next) (wanted (with_numbers (Some den) nums) Denominators) (demand (exceeds_limit x) Denominators)) none
     (limit_agrees x den is (subst (All IsNum) (sym none) (All-nil IsNum)))
 
 pub guard_agrees : (states : List StateLine) (is_last : Bool) (g : Option Condition) (sets : List SetLine) (line : ℕ) (before : List Num) (totals : Totals) → IsGuardWithin g → IsDen before totals.den
@@ -140,7 +140,7 @@ guard_agrees states is_last (Some c) sets line before totals within is =
     (λ t seen. agrees_map {P = IsLeft c totals before}
     (agrees_then (agrees_same t.1.mixed (any_comparison (mixed_sides states) c) Kinds seen.mixed)
     (λ _ one_kind. agrees_then (agrees_same t.1.unfit (any_delay is_unfit c) Delay seen.unfit)
-    (λ _ fits. agrees_then (subst (λ d. Agrees (λ next. IsDen (before ++ condition_numbers c) next) (wanted d Denominators) (demand (passes_limit x) Denominators)) (sym seen.den)
+    (λ _ fits. agrees_then (subst (λ d. Agrees (λ next. IsDen (before ++ condition_numbers c) next) (wanted d Denominators) (demand (exceeds_limit x) Denominators)) (sym seen.den)
     (limit_agrees x totals.den is (cond_numbers c within.each_expr)))
     (λ next den. fine (record { delay_max = t.1.delay_max; den = next }) (record { fits = fits; delay_max = seen.delay_max; den = den })))))
     (λ left come. fine (t.0, left) (record { means = seen.means; fits = come.fits; delay_max = come.delay_max; den = come.den })))

@@ -20,8 +20,8 @@ use Rattle.ctrl_types.specs.Names.{has_name, is_reserved, state_named}
 use Rattle.ctrl_types.specs.Denominators.{least_common}
 use Rattle.ctrl_types.specs.Resolved.{RateMeans, RuleMeans, SeenResolves, guard_delay, place_of, rules_delay}
 use Rattle.ctrl_types.specs.Resolving.{Places, SeenController, SeenRule, controller_by, rate_by, rule_by, rules_by, sets_by, state_of, states_by, unset}
-use Rattle.ctrl_types.specs.Statements.{Saying, Statement, rule, assignment, window, any_delay, ends_otherwise, guard_numbers, in_guard, is_empty, is_unfit, sets_name, numbers, placed, rate_sayings, rule_sayings, sayings, set_sayings, state_sayings, statements}
-use Rattle.ctrl_types.proofs.Agreement.{Agrees, fine, agrees_then, agrees_map, agrees_weaker, agrees_line, judged}
+use Rattle.ctrl_types.specs.Statements.{LineContent, Statement, rule, assignment, window, any_delay, ends_otherwise, guard_numbers, in_guard, is_empty, is_unfit, sets_name, numbers, placed, rate_sayings, rule_sayings, sayings, set_sayings, state_sayings, statements}
+use Rattle.ctrl_types.proofs.EndAlike.{Agrees, fine, agrees_then, agrees_map, agrees_weaker, agrees_line, judged}
 use Rattle.ctrl_types.proofs.DenominatorLaws.{IsDen}
 use Rattle.ctrl_types.proofs.StateLaws.{AreApart, AreDistinct, AreResolved, distinct, nothing_set, or_right}
 use Rattle.ctrl_types.proofs.StatementLaws.{guard_agrees, rate_agrees, set_agrees, state_agrees, window_agrees}
@@ -29,26 +29,26 @@ use Rattle.ctrl_types.proofs.StatementLaws.{guard_agrees, rate_agrees, set_agree
 -- ---- statements one after another
 
 -- the numbers before what follows these lines
-abbrev pub behind : List Num → List Saying → List Num
+abbrev pub behind : List Num → List LineContent → List Num
 behind before [] = before
 behind before (x ∷ xs) = behind (before ++ numbers x) xs
 
-pub behind-flat_map : (before : List Num) (xs : List Saying) → behind before xs ≡ before ++ flat_map numbers xs
+pub behind-flat_map : (before : List Num) (xs : List LineContent) → behind before xs ≡ before ++ flat_map numbers xs
 behind-flat_map before [] = sym (append-nil before)
 behind-flat_map before (x ∷ xs) = behind-flat_map (before ++ numbers x) xs ∙ append_assoc before (numbers x) (flat_map numbers xs)
 
-behind-append : (before : List Num) (xs ys : List Saying) → behind before (xs ++ ys) ≡ behind (behind before xs) ys
+behind-append : (before : List Num) (xs ys : List LineContent) → behind before (xs ++ ys) ≡ behind (behind before xs) ys
 behind-append before [] ys = refl
 behind-append before (x ∷ xs) ys = behind-append (before ++ numbers x) xs ys
 
-placed-append : (before : List Num) (xs ys : List Saying) → placed before (xs ++ ys) ≡ placed before xs ++ placed (behind before xs) ys
+placed-append : (before : List Num) (xs ys : List LineContent) → placed before (xs ++ ys) ≡ placed before xs ++ placed (behind before xs) ys
 placed-append before [] ys = refl
 placed-append before (x ∷ xs) ys = ap (λ (ss : List Statement). record { says = x; before = before } ∷ ss) (placed-append (before ++ numbers x) xs ys)
 
-abbrev pub asks : List StateLine → List Num → List Saying → Result (Unit {0}) Refusal
+abbrev pub asks : List StateLine → List Num → List LineContent → Result (Unit {0}) Refusal
 asks states before xs = first (judged states) (placed before xs)
 
-asks-append : (states : List StateLine) (before : List Num) (xs ys : List Saying) → asks states before (xs ++ ys) ≡ and_then (asks states before xs) (asks states (behind before xs) ys)
+asks-append : (states : List StateLine) (before : List Num) (xs ys : List LineContent) → asks states before (xs ++ ys) ≡ and_then (asks states before xs) (asks states (behind before xs) ys)
 asks-append states before xs ys =
     ap (first (judged states)) (placed-append before xs ys) ∙ first-append (judged states) (placed before xs) (placed (behind before xs) ys)
 
@@ -134,7 +134,7 @@ rules_agree : (states : List StateLine) (rules : List Rule) (before : List Num) 
 unfolding rules_by
 rules_agree states [] before totals apart each is = fine ([], totals) (record { means = tt; sound = All-nil (IsSoundRule states); delay_max = refl; den = is })
 rules_agree states (r ∷ rules) before totals apart each is =
-    let here : List Saying = rule (is_empty rules) r ∷ set_sayings [] r.sets in
+    let here : List LineContent = rule (is_empty rules) r ∷ set_sayings [] r.sets in
     subst (Agrees (AreRules states (r ∷ rules) totals before) (rules_by states (r ∷ rules) totals)) (sym (asks-append states before here (rule_sayings rules)))
     (agrees_then (rule_agrees states (is_empty rules) r before totals apart (All-head IsRuleWithin r rules each) is)
     (λ x one. agrees_map (rules_agree states rules (behind before here) x.1 apart (All-tail IsRuleWithin r rules each) one.den)
@@ -168,7 +168,7 @@ pub record IsRead (sections : Sections) (c : SeenController) : Type 0 where
   pub ended : not (ends_otherwise sections.rules) ≡ false
   pub within : (d : ℕ) × (c.den ≡ pos d) × IsDen (flat_map numbers (sayings sections)) d
 
-all_behind : (states : List StateLine) (rules : List Rule) (w : Saying) (rates : List Saying)
+all_behind : (states : List StateLine) (rules : List Rule) (w : LineContent) (rates : List LineContent)
     → behind (behind (behind [] (state_sayings [] states)) (rule_sayings rules)) (w ∷ rates) ≡ flat_map numbers (state_sayings [] states ++ (rule_sayings rules ++ (w ∷ rates)))
 all_behind states rules w rates =
     sym (behind-append (behind [] (state_sayings [] states)) (rule_sayings rules) (w ∷ rates))
@@ -183,9 +183,9 @@ pub text_agrees : (sections : Sections) → AreSectionsWithin sections → Agree
 unfolding controller_by statements sayings
 text_agrees sections is =
     let states : List StateLine = sections.states in
-    let w : Saying = window sections.rules sections.window sections.window_line in
-    let opening : List Saying = state_sayings [] states in
-    let ruling : List Saying = rule_sayings sections.rules in
+    let w : LineContent = window sections.rules sections.window sections.window_line in
+    let opening : List LineContent = state_sayings [] states in
+    let ruling : List LineContent = rule_sayings sections.rules in
     let before_rules : List Num = behind [] opening in
     let before_window : List Num = behind before_rules ruling in
     subst (Agrees (IsRead sections) (controller_by sections)) (sym (asks-append states [] opening (ruling ++ (w ∷ rate_sayings sections.rate))))

@@ -9,8 +9,8 @@ use Rattle.condition_syntax.specs.declared.conditions.Cond.TheVariants as conds
 use Rattle.condition_syntax.proofs.TreeLaws.{condition_of-And, condition_of-Or}
 use Rattle.ctrl_syntax.specs.declared.syntax.StateLine.{StateLine}
 use Rattle.ctrl_types.specs.declared.breaches.Breach.{Breach}
-use Rattle.ctrl_types.specs.declared.breaches.Halt.{Halt}
-use Rattle.ctrl_types.specs.declared.breaches.Halt.TheVariants.{Broken, NoMemory}
+use Rattle.ctrl_types.specs.declared.breaches.ResolveStop.{ResolveStop}
+use Rattle.ctrl_types.specs.declared.breaches.ResolveStop.TheVariants.{Broken, NoMemory}
 use Rattle.ctrl_types.specs.declared.gates.Gate.{Gate}
 use Rattle.ctrl_types.specs.declared.gates.Gate.TheOpen.{Gate-F}
 use Rattle.ctrl_types.specs.declared.gates.Gate.TheFolds.{fold-roll-Gate}
@@ -98,12 +98,12 @@ any_breaks : (states : List StateLine) (cs : List Condition) (s : Survey) (breac
     → gates_by states cs s ≡ Err breach → gate_by states (conditions.disjunction cs) s ≡ Err breach
 any_breaks states cs s breach read = gate_by-disjunction states cs s ∙ ap (joined tests.disjunction) read
 
-pub all_halts : (states : List StateLine) (cs : List Condition) (s : Survey) (halt : Halt)
+pub all_halts : (states : List StateLine) (cs : List Condition) (s : Survey) (halt : ResolveStop)
     → Halts halt (gates_by states cs s) → Halts halt (gate_by states (conditions.conjunction cs) s)
 all_halts states cs s NoMemory read = tt
 all_halts states cs s (Broken breach) read = all_breaks states cs s breach read
 
-pub any_halts : (states : List StateLine) (cs : List Condition) (s : Survey) (halt : Halt)
+pub any_halts : (states : List StateLine) (cs : List Condition) (s : Survey) (halt : ResolveStop)
     → Halts halt (gates_by states cs s) → Halts halt (gate_by states (conditions.disjunction cs) s)
 any_halts states cs s NoMemory read = tt
 any_halts states cs s (Broken breach) read = any_breaks states cs s breach read

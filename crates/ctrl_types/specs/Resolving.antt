@@ -17,8 +17,8 @@ use Rattle.ctrl_syntax.specs.Sections.{Rule as WrittenRule, Sections}
 use Rattle.ctrl_types.specs.declared.breaches.Breach.{Breach}
 use Rattle.ctrl_types.specs.declared.breaches.Breach.TheVariants as breaches
 use Rattle.ctrl_types.specs.declared.breaches.Breach.TheVariants.{Reserved, Unknown, Kinds, Bounds, Twice, Otherwise, Denominators}
-use Rattle.ctrl_types.specs.declared.breaches.Halt.{Halt}
-use Rattle.ctrl_types.specs.declared.breaches.Halt.TheVariants as halts
+use Rattle.ctrl_types.specs.declared.breaches.ResolveStop.{ResolveStop}
+use Rattle.ctrl_types.specs.declared.breaches.ResolveStop.TheVariants as halts
 use Rattle.ctrl_types.specs.declared.controllers.Controller.{Controller}
 use Rattle.ctrl_types.specs.declared.controllers.Rule.{Rule}
 use Rattle.ctrl_types.specs.declared.controllers.State.{State}
@@ -38,17 +38,17 @@ use Rattle.ctrl_types.specs.Statements.{refusal_of, rows_of, is_unfit, is_above,
 -- ---- what calls answer
 
 -- the breach is the one that is found, unless memory ran out
-abbrev pub Halts : {Y : Type 0} → Halt → Result Y Breach → Type 0
+abbrev pub Halts : {Y : Type 0} → ResolveStop → Result Y Breach → Type 0
 Halts (halts.Broken breach) read = read ≡ Err breach
 Halts halts.NoMemory read = Unit {0}
 
 -- a call gives what is resolved, as it is seen, unless memory runs out
-abbrev pub Answers : {X Y : Type 0} → (X → Y) → Result X Halt → Result Y Breach → Type 0
+abbrev pub Answers : {X Y : Type 0} → (X → Y) → Result X ResolveStop → Result Y Breach → Type 0
 Answers view (Ok x) read = read ≡ Ok (view x)
 Answers view (Err halt) read = Halts halt read
 
 -- the same of a call that leaves a state
-abbrev pub AnswersLeaving : {X Y S : Type 0} → (X → Y) → Result X Halt → S → Result (Y × S) Breach → Type 0
+abbrev pub AnswersLeaving : {X Y S : Type 0} → (X → Y) → Result X ResolveStop → S → Result (Y × S) Breach → Type 0
 AnswersLeaving view (Ok x) left read = read ≡ Ok (view x, left)
 AnswersLeaving view (Err halt) left read = Halts halt read
 
@@ -61,7 +61,7 @@ LeavesUnless view (Ok x) left read = read ≡ Ok (view x, left)
 LeavesUnless view (Err fault) left read = Fails fault read
 
 -- the refusal of this line, unless memory ran out
-abbrev pub fault_of : Halt → ℕ → ReadFault
+abbrev pub fault_of : ResolveStop → ℕ → ReadFault
 fault_of (halts.Broken breach) line = faults.Refused (refusal_of breach line)
 fault_of halts.NoMemory line = faults.NoMemory
 

@@ -22,29 +22,29 @@ use Rattle.ctrl_types.specs.Names.{has_name, is_reserved, state_named, has_unkno
 -- ---- the statements of a text
 
 -- what a line says, with what it is judged by
-pub data Saying : Type 0 where
+pub data LineContent : Type 0 where
   -- a state, behind these
-  state : List StateLine → StateLine → Saying
+  state : List StateLine → StateLine → LineContent
   -- a rule; whether it is the last
-  rule : Bool → Rule → Saying
+  rule : Bool → Rule → LineContent
   -- an assignment, behind these of its rule
-  assignment : List SetLine → SetLine → Saying
+  assignment : List SetLine → SetLine → LineContent
   -- the window on this line, behind these rules
-  window : List Rule → Expr → ℕ → Saying
-  rate : RateLine → Saying
+  window : List Rule → Expr → ℕ → LineContent
+  rate : RateLine → LineContent
 
-abbrev pub line_of : Saying → ℕ
+abbrev pub line_of : LineContent → ℕ
 line_of (state earlier s) = s.line
 line_of (rule is_last r) = r.line
 line_of (assignment earlier s) = s.line
 line_of (window rules expr line) = line
 line_of (rate r) = r.line
 
-abbrev pub state_sayings : List StateLine → List StateLine → List Saying
+abbrev pub state_sayings : List StateLine → List StateLine → List LineContent
 state_sayings earlier [] = []
 state_sayings earlier (s ∷ states) = state earlier s ∷ state_sayings (earlier ++ s ∷ []) states
 
-abbrev pub set_sayings : List SetLine → List SetLine → List Saying
+abbrev pub set_sayings : List SetLine → List SetLine → List LineContent
 set_sayings earlier [] = []
 set_sayings earlier (s ∷ sets) = assignment earlier s ∷ set_sayings (earlier ++ s ∷ []) sets
 
@@ -52,16 +52,16 @@ abbrev pub is_empty : {X : Type 0} → List X → Bool
 is_empty [] = true
 is_empty (x ∷ xs) = false
 
-abbrev pub rule_sayings : List Rule → List Saying
+abbrev pub rule_sayings : List Rule → List LineContent
 rule_sayings [] = []
 rule_sayings (r ∷ rules) = rule (is_empty rules) r ∷ (set_sayings [] r.sets ++ rule_sayings rules)
 
-abbrev pub rate_sayings : Option RateLine → List Saying
+abbrev pub rate_sayings : Option RateLine → List LineContent
 rate_sayings None = []
 rate_sayings (Some r) = rate r ∷ []
 
 -- what the lines say, in the order of the text
-unfoldable pub sayings : Sections → List Saying
+unfoldable pub sayings : Sections → List LineContent
 sayings sections = state_sayings [] sections.states ++ (rule_sayings sections.rules ++ (window sections.rules sections.window sections.window_line ∷ rate_sayings sections.rate))
 
 -- ---- the numbers of a line; those of tests of delay don't count
@@ -80,7 +80,7 @@ abbrev pub guard_numbers : Option Condition → List Num
 guard_numbers None = []
 guard_numbers (Some c) = condition_numbers c
 
-abbrev pub numbers : Saying → List Num
+abbrev pub numbers : LineContent → List Num
 numbers (state earlier s) = s.lo ∷ s.hi ∷ []
 numbers (rule is_last r) = guard_numbers r.guard
 numbers (assignment earlier s) = coefs s.expr.terms
@@ -89,10 +89,10 @@ numbers (rate r) = coefs r.expr.terms
 
 -- what a line says, and the numbers of the lines before it
 pub record Statement : Type 0 where
-  pub says : Saying
+  pub says : LineContent
   pub before : List Num
 
-abbrev pub placed : List Num → List Saying → List Statement
+abbrev pub placed : List Num → List LineContent → List Statement
 placed before [] = []
 placed before (x ∷ xs) = record { says = x; before = before } ∷ placed (before ++ numbers x) xs
 
@@ -157,7 +157,7 @@ abbrev pub sets_name : List ℕ → SetLine → Bool
 sets_name w s = bytes_eq s.name w
 
 -- the name is reserved or an earlier state's
-abbrev pub takes_name : Saying → Bool
+abbrev pub takes_name : LineContent → Bool
 takes_name (state earlier s) = is_reserved s.name || list_any (has_name s.name) earlier
 takes_name (rule is_last r) = false
 takes_name (assignment earlier s) = false
@@ -165,7 +165,7 @@ takes_name (window rules expr line) = false
 takes_name (rate r) = false
 
 -- a name is no state's; in guards and behind a target `acked` and `lost` are known too
-abbrev pub names_none : List StateLine → Saying → Bool
+abbrev pub names_none : List StateLine → LineContent → Bool
 names_none states (state earlier s) = false
 names_none states (rule is_last r) = in_guard (any_comparison (unknown_sides states)) r.guard
 names_none states (assignment earlier s) = is_none (state_named states s.name) || has_unknown states true s.expr.terms
@@ -173,7 +173,7 @@ names_none states (window rules expr line) = has_unknown states false expr.terms
 names_none states (rate r) = has_unknown states false r.expr.terms
 
 -- two names of different kinds stand in one comparison, one assignment, or the window's or the rate's expression
-abbrev pub mixes_kinds : List StateLine → Saying → Bool
+abbrev pub mixes_kinds : List StateLine → LineContent → Bool
 mixes_kinds states (state earlier s) = false
 mixes_kinds states (rule is_last r) = in_guard (any_comparison (mixed_sides states)) r.guard
 mixes_kinds states (assignment earlier s) = mixes_set states s.name s.expr.terms
@@ -181,7 +181,7 @@ mixes_kinds states (window rules expr line) = mixes_bound states expr.terms
 mixes_kinds states (rate r) = mixes_bound states r.expr.terms
 
 -- the least opening value is above the greatest
-abbrev pub turns_bounds : Saying → Bool
+abbrev pub turns_bounds : LineContent → Bool
 turns_bounds (state earlier s) = is_above s.lo s.hi
 turns_bounds (rule is_last r) = false
 turns_bounds (assignment earlier s) = false
@@ -189,7 +189,7 @@ turns_bounds (window rules expr line) = false
 turns_bounds (rate r) = false
 
 -- the rule has set the state already
-abbrev pub sets_again : Saying → Bool
+abbrev pub sets_again : LineContent → Bool
 sets_again (state earlier s) = false
 sets_again (rule is_last r) = false
 sets_again (assignment earlier s) = list_any (sets_name s.name) earlier
@@ -197,7 +197,7 @@ sets_again (window rules expr line) = false
 sets_again (rate r) = false
 
 -- an `otherwise` isn't the last rule; at the window, that the last rule is none
-abbrev pub misplaces_otherwise : Saying → Bool
+abbrev pub misplaces_otherwise : LineContent → Bool
 misplaces_otherwise (state earlier s) = false
 misplaces_otherwise (rule is_last r) = is_none r.guard && not is_last
 misplaces_otherwise (assignment earlier s) = false
@@ -205,7 +205,7 @@ misplaces_otherwise (window rules expr line) = not (ends_otherwise rules)
 misplaces_otherwise (rate r) = false
 
 -- the number of a test of delay isn't whole or exceeds 8
-abbrev pub delays_unfit : Saying → Bool
+abbrev pub delays_unfit : LineContent → Bool
 delays_unfit (state earlier s) = false
 delays_unfit (rule is_last r) = in_guard (any_delay is_unfit) r.guard
 delays_unfit (assignment earlier s) = false
@@ -213,7 +213,7 @@ delays_unfit (window rules expr line) = false
 delays_unfit (rate r) = false
 
 -- the window or the rate has a name of the kind Count
-abbrev pub counts : List StateLine → Saying → Bool
+abbrev pub counts : List StateLine → LineContent → Bool
 counts states (state earlier s) = false
 counts states (rule is_last r) = false
 counts states (assignment earlier s) = false
@@ -221,8 +221,8 @@ counts states (window rules expr line) = names_kind states false kinds.Count exp
 counts states (rate r) = names_kind states false kinds.Count r.expr.terms
 
 -- the least common multiple of the denominators up to this line is past the limit
-unfoldable pub passes_limit : Statement → Bool
-passes_limit x = nat_lt 1000000 (least_common (x.before ++ numbers x.says))
+unfoldable pub exceeds_limit : Statement → Bool
+exceeds_limit x = nat_lt 1000000 (least_common (x.before ++ numbers x.says))
 
 -- whether a statement breaks a rule, where the controller has these states
 abbrev pub breaks : List StateLine → Statement → Breach → Bool
@@ -233,7 +233,7 @@ breaks states x Bounds = turns_bounds x.says
 breaks states x Twice = sets_again x.says
 breaks states x Otherwise = misplaces_otherwise x.says
 breaks states x Delay = delays_unfit x.says
-breaks states x Denominators = passes_limit x
+breaks states x Denominators = exceeds_limit x
 breaks states x Count = counts states x.says
 
 -- the numbers by which the rules are known

@@ -22,7 +22,7 @@ pub(crate) enum Breach {
     Otherwise,
     /// A test of delay has a number that isn't whole or exceeds 8.
     Delay,
-    /// The least common multiple of the denominators passes its limit.
+    /// The least common multiple of the denominators exceeds its limit.
     Denominators,
     /// The window or the rate has a count.
     Count,
@@ -59,40 +59,40 @@ impl Breach {
 
 /// Why a part of a line isn't resolved.
 #[derive(Clone, Copy, Debug, PartialEq, Eq)]
-pub(crate) enum Halt {
+pub(crate) enum ResolveStop {
     Broken(Breach),
     NoMemory,
 }
 
-impl From<AllocError> for Halt {
+impl From<AllocError> for ResolveStop {
     ghost use Rattle.std.specs.Prelude.{◌≡◌};
-    ghost use Rattle.ctrl_types.specs.declared.breaches.Halt.TheVariants.{NoMemory};
+    ghost use Rattle.ctrl_types.specs.declared.breaches.ResolveStop.TheVariants.{NoMemory};
 
     ghost from_gives = { λ _ halt. halt ≡ NoMemory };
 
-    fn from(_fault: AllocError) -> Halt {
-        Halt::NoMemory
+    fn from(_fault: AllocError) -> ResolveStop {
+        ResolveStop::NoMemory
     }
 }
 
-impl<T: Drop> From<AllocFailed<T>> for Halt {
+impl<T: Drop> From<AllocFailed<T>> for ResolveStop {
     ghost use Rattle.std.specs.Prelude.{◌≡◌};
-    ghost use Rattle.ctrl_types.specs.declared.breaches.Halt.TheVariants.{NoMemory};
+    ghost use Rattle.ctrl_types.specs.declared.breaches.ResolveStop.TheVariants.{NoMemory};
 
     ghost from_gives = { λ _ halt. halt ≡ NoMemory };
 
-    fn from(_fault: AllocFailed<T>) -> Halt {
-        Halt::NoMemory
+    fn from(_fault: AllocFailed<T>) -> ResolveStop {
+        ResolveStop::NoMemory
     }
 }
 
-impl From<Breach> for Halt {
+impl From<Breach> for ResolveStop {
     ghost use Rattle.std.specs.Prelude.{◌≡◌};
-    ghost use Rattle.ctrl_types.specs.declared.breaches.Halt.TheVariants.{Broken};
+    ghost use Rattle.ctrl_types.specs.declared.breaches.ResolveStop.TheVariants.{Broken};
 
     ghost from_gives = { λ breach halt. halt ≡ Broken breach };
 
-    fn from(breach: Breach) -> Halt {
-        Halt::Broken(breach)
+    fn from(breach: Breach) -> ResolveStop {
+        ResolveStop::Broken(breach)
     }
 }

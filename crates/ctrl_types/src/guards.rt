@@ -9,7 +9,7 @@ ghost use Rattle.ctrl_types.specs.Denominators.{IsScale};
 ghost use Rattle.ctrl_types.specs.Resolving.{AnswersLeaving, AreReadable, EachReadable, comparison_by, gate_by, gates_by, with_comparison, with_delay};
 ghost use Rattle.ctrl_types.specs.Scopes.{IsScope};
 
-use crate::breaches::Halt;
+use crate::breaches::ResolveStop;
 use crate::expressions::Lin;
 use crate::gates::Gate;
 use crate::names::Scope;
@@ -38,7 +38,7 @@ fn with_comparison(states: &[StateLine], left: &Lin, right: &Lin, seen: Survey) 
 }
 
 /// The whole part of a number of rows.
-#[tactic(auto, using(whole::proofs::Passing::signed))]
+#[tactic(auto, using(whole::proofs::Overflow::signed))]
 fn rows_of(number: Num) -> u32
     requires { IsNum number }
     ensures { result ≡ rows_of number }
@@ -47,7 +47,7 @@ fn rows_of(number: Num) -> u32
 }
 
 /// Whether the number isn't whole by its value or exceeds 8.
-#[tactic(auto, using(whole::proofs::Passing::signed), unfolding(crate::specs::Statements::is_unfit))]
+#[tactic(auto, using(whole::proofs::Overflow::signed), unfolding(crate::specs::Statements::is_unfit))]
 fn is_unfit(number: Num) -> bool
     requires { IsNum number }
     ensures { result ≡ is_unfit number }
@@ -77,7 +77,7 @@ fn comparison(
     rel: Rel5,
     right: &Expr,
     seen: &mut Survey,
-) -> Result<Gate, Halt>
+) -> Result<Gate, ResolveStop>
     requires scope_in { IsScope scope.now }
     requires left_in { IsExpr left.now }
     requires right_in { IsExpr right.now }
@@ -99,7 +99,7 @@ pub(crate) fn gate(
     scope: &Scope<'_>,
     condition: &Cond,
     seen: &mut Survey,
-) -> Result<Gate, Halt>
+) -> Result<Gate, ResolveStop>
     requires scope_in { IsScope scope.now }
     requires condition_in { AreReadable (condition_of condition.now) }
     requires den_in { IfSome seen.old.den IsScale }
@@ -131,7 +131,7 @@ fn gates(
     scope: &Scope<'_>,
     parts: &Vec<Cond>,
     seen: &mut Survey,
-) -> Result<Vec<Gate>, Halt>
+) -> Result<Vec<Gate>, ResolveStop>
     requires scope_in { IsScope scope.now }
     requires parts_in { EachReadable (map condition_of parts.now.items) }
     requires den_in { IfSome seen.old.den IsScale }

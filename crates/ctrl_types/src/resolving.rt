@@ -11,7 +11,7 @@ ghost use Rattle.ctrl_types.specs.Statements.{IsFirstBroken, IsUnbroken, ends_ot
 ghost use Rattle.ctrl_types.specs.Resolved.{RefusesUnless, Resolves};
 ghost use Rattle.ctrl_types.specs.Resolving.{GivesSeenUnless, LeavesUnless, controller_by, controller_seen, fault_of, rate_by, rule_by, rule_seen, rules_by, sets_by, states_by, unset};
 
-use crate::breaches::Halt;
+use crate::breaches::ResolveStop;
 use crate::controllers::{Controller, Rule, State};
 use crate::expressions::Lin;
 use crate::names::Scope;
@@ -24,12 +24,12 @@ use std::alloc::{AllocError, Global};
 use whole::ReadFault;
 
 /// The refusal of this line, or want of memory.
-fn fault_of(halt: Halt, line: u32) -> ReadFault
+fn fault_of(halt: ResolveStop, line: u32) -> ReadFault
     ensures { result ≡ fault_of halt line }
 {
     match halt {
-        Halt::Broken(breach) => ReadFault::Refused(breach.refusal(line)),
-        Halt::NoMemory => ReadFault::NoMemory,
+        ResolveStop::Broken(breach) => ReadFault::Refused(breach.refusal(line)),
+        ResolveStop::NoMemory => ReadFault::NoMemory,
     }
 }
 

@@ -10,7 +10,7 @@ ghost use Rattle.ctrl_types.specs.Denominators.{IsScale, with_numbers};
 ghost use Rattle.ctrl_types.specs.Resolving.{Answers, AnswersLeaving, AreReadable, bound_by, condition_by, demand, guard_by, is_filled, set_by, set_mixes, state_by, surveyed};
 ghost use Rattle.ctrl_types.specs.Scopes.{IsScope};
 
-use crate::breaches::{Breach, Halt};
+use crate::breaches::{Breach, ResolveStop};
 use crate::controllers::{Kind, State};
 use crate::expressions::{Lin, Source};
 use crate::gates::Gate;
@@ -30,7 +30,7 @@ fn demand(broken: bool, breach: Breach) -> Result<(), Breach>
 }
 
 /// Whether the first number is greater.
-#[tactic(auto, using(whole::proofs::Passing::signed), unfolding(crate::specs::Statements::is_above))]
+#[tactic(auto, using(whole::proofs::Overflow::signed), unfolding(crate::specs::Statements::is_above))]
 fn is_above(first: Num, second: Num) -> bool
     requires first_in { IsNum first }
     requires second_in { IsNum second }
@@ -57,7 +57,7 @@ pub(crate) fn state(
     is_taken: bool,
     line: &StateLine,
     den: &mut u32,
-) -> Result<State, Halt>
+) -> Result<State, ResolveStop>
     requires line_in { IsStateLine line.now }
     requires den_in { IsScale den.old }
     ensures exact { AnswersLeaving (λ x. x) result den.new (state_by is_taken line.now den.old) }
@@ -103,7 +103,7 @@ pub(crate) fn set(
     line: &SetLine,
     places: &mut Items<Option<Lin>>,
     den: &mut u32,
-) -> Result<(), Halt>
+) -> Result<(), ResolveStop>
     requires scope_in { IsScope scope.now }
     requires line_in { IsSetLine line.now }
     requires places_are { length places.old ≡ length scope.now.states.now }
@@ -143,7 +143,7 @@ fn condition(
     scope: &Scope<'_>,
     condition: &Cond,
     totals: &mut Totals,
-) -> Result<Gate, Halt>
+) -> Result<Gate, ResolveStop>
     requires scope_in { IsScope scope.now }
     requires condition_in { AreReadable (condition_of condition.now) }
     requires totals_in { IsScale totals.old.den }
@@ -169,7 +169,7 @@ pub(crate) fn guard(
     is_last: bool,
     guard: &Option<Cond>,
     totals: &mut Totals,
-) -> Result<Gate, Halt>
+) -> Result<Gate, ResolveStop>
     requires scope_in { IsScope scope.now }
     requires guard_in { IsGuard guard.now }
     requires totals_in { IsScale totals.old.den }
@@ -193,7 +193,7 @@ pub(crate) fn bound(
     unended: bool,
     expr: &Expr,
     den: &mut u32,
-) -> Result<Lin, Halt>
+) -> Result<Lin, ResolveStop>
     requires scope_in { IsScope scope.now }
     requires expr_in { IsExpr expr.now }
     requires den_in { IsScale den.old }

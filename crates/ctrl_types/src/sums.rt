@@ -8,7 +8,7 @@ ghost use Rattle.ctrl_types.specs.Scopes.{IsScope};
 ghost use Rattle.ctrl_types.specs.Denominators.{IsScale, joined, with_number};
 ghost use Rattle.ctrl_types.specs.Resolving.{Answers, wanted, lin_has, lins_mix, with_lin};
 
-use crate::breaches::{Breach, Halt};
+use crate::breaches::{Breach, ResolveStop};
 use crate::controllers::Kind;
 use crate::expressions::{Lin, LinTerm, Source};
 use crate::names::{Scope, source_of};
@@ -21,7 +21,12 @@ use whole::lcm;
 const MOST_DEN: i128 = 1_000_000;
 
 /// The expression that is meant.
-pub(crate) fn lin(alloc: Global, scope: &Scope<'_>, signals: bool, expr: &Expr) -> Result<Lin, Halt>
+pub(crate) fn lin(
+    alloc: Global,
+    scope: &Scope<'_>,
+    signals: bool,
+    expr: &Expr,
+) -> Result<Lin, ResolveStop>
     requires scope_in { IsScope scope.now }
     requires expr_in { All IsPlainTerm expr.now.terms }
     ensures exact { Answers (λ x. x) result (wanted (lin_of scope.now.states.now signals expr.now) Unknown) }
@@ -96,8 +101,8 @@ pub(crate) fn lins_mix(states: &[StateLine], left: &Lin, right: &Lin) -> bool
         && (lin_has(states, Kind::Count, left) || lin_has(states, Kind::Count, right))
 }
 
-/// The least common multiple of this one and a number's denominator, unless it passes the limit.
-#[tactic(auto, using(whole::proofs::Passing::signed))]
+/// The least common multiple of this one and a number's denominator, unless it exceeds the limit.
+#[tactic(auto, using(whole::proofs::Overflow::signed))]
 fn joined(den: u32, number: Num) -> Option<u32>
     requires den_in { IsScale den }
     requires number_in { IsNum number }

@@ -5,8 +5,8 @@ use Rattle.ccac_ports.specs.Ports.{HasRisen, Tells, Told}
 use Rattle.draw_trace.specs.Fetched.{AreFetched, BothEnd, FetchEnds, IsFetched, IsLater, at_question, at_trace, faulty, longer}
 use Rattle.draw_trace.specs.Halted.{HaltsBy}
 use Rattle.draw_trace.specs.Reports.{Answer, most_bytes}
-use Rattle.draw_trace.specs.declared.fetching.Halt.{Halt}
-use Rattle.draw_trace.specs.declared.fetching.Halt.TheVariants.{Report, NoMemory}
+use Rattle.draw_trace.specs.declared.fetching.EarlyEnd.{EarlyEnd}
+use Rattle.draw_trace.specs.declared.fetching.EarlyEnd.TheVariants.{Report, NoMemory}
 use Rattle.draw_trace.specs.declared.reports.Source.{Source}
 use Rattle.draw_trace.specs.declared.reports.Source.TheVariants.{Question, Trace}
 
@@ -28,11 +28,11 @@ later_ends old middle new source name answer later (longer rose past) =
     longer (rises (old.excesses name) (middle.excesses name) (new.excesses name) (later.excesses_stay name) rose)
     (subst (λ told. IfSome told (λ held. most_bytes < length held)) (later.kept name) past)
 
-pub first_ends : (old new : Told) (c q : List ℕ) (halt : Halt) → HaltsBy (FetchEnds old new Question c) halt → HaltsBy (BothEnd old new c q) halt
+pub first_ends : (old new : Told) (c q : List ℕ) (halt : EarlyEnd) → HaltsBy (FetchEnds old new Question c) halt → HaltsBy (BothEnd old new c q) halt
 first_ends old new c q (Report report) ends = at_question ends
 first_ends old new c q NoMemory ends = tt
 
-pub second_ends : (old middle new : Told) (c q question : List ℕ) (halt : Halt) → IsLater old middle → IsFetched old c question
+pub second_ends : (old middle new : Told) (c q question : List ℕ) (halt : EarlyEnd) → IsLater old middle → IsFetched old c question
     → HaltsBy (FetchEnds middle new Trace q) halt → HaltsBy (BothEnd old new c q) halt
 second_ends old middle new c q question (Report report) later fetched ends =
     at_trace question fetched (later_ends old middle new Trace q _ later ends)

@@ -11,19 +11,19 @@ const MOST_BYTES: u64 = 65_536;
 
 /// Why a call ends before it has both files.
 #[derive(Debug, Drop)]
-pub(crate) enum Halt {
+pub(crate) enum EarlyEnd {
     Report(Report),
     NoMemory,
 }
 
-impl From<AllocError> for Halt {
+impl From<AllocError> for EarlyEnd {
     ghost use Rattle.std.specs.Prelude.{◌≡◌};
-    ghost use Rattle.draw_trace.specs.declared.fetching.Halt.TheVariants.{NoMemory};
+    ghost use Rattle.draw_trace.specs.declared.fetching.EarlyEnd.TheVariants.{NoMemory};
 
     ghost from_gives = { λ _ halt. halt ≡ NoMemory };
 
-    fn from(_fault: AllocError) -> Halt {
-        Halt::NoMemory
+    fn from(_fault: AllocError) -> EarlyEnd {
+        EarlyEnd::NoMemory
     }
 }
 
@@ -40,7 +40,7 @@ pub(crate) fn fetch_both<F: Folder>(
     folder: &mut F,
     question: &str,
     trace: &str,
-) -> Result<Texts, Halt>
+) -> Result<Texts, EarlyEnd>
     ensures found { IfOk result (λ texts. AreFetched (F.tells folder.old) question.now trace.now texts.question.items texts.trace.items) }
     ensures halted { IfErr result (λ halt. HaltsBy (BothEnd (F.tells folder.old) (F.tells folder.new) question.now trace.now) halt) }
 {
@@ -55,15 +55,15 @@ fn fetch<F: Folder>(
     folder: &mut F,
     source: Source,
     name: &str,
-) -> Result<Vec<u8>, Halt>
+) -> Result<Vec<u8>, EarlyEnd>
     ensures found { IfOk result (λ bytes. IsFetched (F.tells folder.old) name.now bytes.items) }
     ensures halted { IfErr result (λ halt. HaltsBy (FetchEnds (F.tells folder.old) (F.tells folder.new) source name.now) halt) }
     ensures later { IsLater (F.tells folder.old) (F.tells folder.new) }
 {
     match folder.fetch(name, MOST_BYTES) {
         Ok(bytes) => Ok(bytes),
-        Err(FetchFault::Failed) => Err(Halt::Report(Report::read_fault(alloc, source)?)),
-        Err(FetchFault::TooLong) => Err(Halt::Report(Report::too_long(alloc, source)?)),
-        Err(FetchFault::NoMemory) => Err(Halt::NoMemory),
+        Err(FetchFault::Failed) => Err(EarlyEnd::Report(Report::read_fault(alloc, source)?)),
+        Err(FetchFault::TooLong) => Err(EarlyEnd::Report(Report::too_long(alloc, source)?)),
+        Err(FetchFault::NoMemory) => Err(EarlyEnd::NoMemory),
     }
 }

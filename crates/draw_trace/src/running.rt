@@ -5,7 +5,7 @@ ghost use Rattle.draw_trace.specs.Requests.{request_of};
 ghost use Rattle.draw_trace.specs.Shown.{shown};
 
 use crate::answering::answer;
-use crate::fetching::{Halt, fetch_both};
+use crate::fetching::{EarlyEnd, fetch_both};
 use crate::reports::Report;
 use crate::requests::{Request, request_of};
 use ccac_ports::{Folder, PutFault, Sink};
@@ -48,8 +48,8 @@ fn carried_out<F: Folder>(
 {
     match fetch_both(alloc, folder, request.question, request.trace) {
         Ok(texts) => answer(alloc, texts.question.as_slice(), texts.trace.as_slice()),
-        Err(Halt::Report(report)) => Ok(report),
-        Err(Halt::NoMemory) => Err(NoMemory),
+        Err(EarlyEnd::Report(report)) => Ok(report),
+        Err(EarlyEnd::NoMemory) => Err(NoMemory),
     }
 }
 

@@ -1,4 +1,4 @@
--- The inverse of a number has the number's parts, exchanged, so it passes no limit that the number is within.
+-- The inverse of a number has the number's parts, exchanged, so it exceeds no limit that the number is within.
 use Rattle.std.proofs.Common.{◌≡◌, ℕ, zero, ◌*◌, ◌<◌, ◌⊎◌, inl, inr, pos, ◌*ℤ◌, unsigned_abs, sym, ap, ◌∙◌, arith, lit<}
 use Rattle.std.proofs.lemmas.Int.{unsigned_abs-mul}
 use Rattle.std.proofs.Math.Nat.{mul-one, one-mul, mul_comm}
@@ -30,11 +30,11 @@ inverse_is_exchanged p q x y left right one =
     same_lowest_terms (unsigned_abs p.num) p.den q.den (unsigned_abs q.num) left.reduced.some left.reduced.coprime (IsCoprime-swap _ _ right.reduced.coprime) (sizes_cross p q x y left right one)
 
 pub inverse_fits : (limit : ℕ) (q : Ratio) (y : ℚ) → InLowestTerms q y → IsWithin limit q → QuotientExceeds limit (whole (pos 1)) y → ⊥
-inverse_fits limit q y right within wide = by_cause wide.passes.passes
+inverse_fits limit q y right within wide = by_cause wide.overflows.overflows
   where
-    exchanged : (unsigned_abs wide.passes.pair.num ≡ q.den) × (wide.passes.pair.den ≡ unsigned_abs q.num)
-    exchanged = inverse_is_exchanged wide.passes.pair q wide.quotient y wide.passes.lowest right wide.divides
+    exchanged : (unsigned_abs wide.overflows.pair.num ≡ q.den) × (wide.overflows.pair.den ≡ unsigned_abs q.num)
+    exchanged = inverse_is_exchanged wide.overflows.pair q wide.quotient y wide.overflows.lowest right wide.divides
 
-    by_cause : (limit < unsigned_abs wide.passes.pair.num) ⊎ (limit < wide.passes.pair.den) → ⊥
+    by_cause : (limit < unsigned_abs wide.overflows.pair.num) ⊎ (limit < wide.overflows.pair.den) → ⊥
     by_cause (inl more) = absurd (omega (arith, exchanged, within))
     by_cause (inr more) = absurd (omega (arith, exchanged, within))

@@ -29,7 +29,7 @@ IsQuotientAt limit b o c k v = (v *ℚ c o ≡ dividend b o c k) × (¬ Quotient
 
 pub IsQuotientAt-by : (limit b o : ℕ) (c : ℕ → ℚ) (k : ℕ) (v divided factor : ℚ) → divided ≡ dividend b o c k → factor *ℚ c o ≡ whole (pos 1) → v ≡ divided *ℚ factor → (Exceeds limit (divided *ℚ factor) → ⊥) → IsQuotientAt limit b o c k v
 IsQuotientAt-by limit b o c k v divided factor p inverts exact kept =
-    (ap (λ w. w *ℚ c o) exact ∙ *ℚ_assoc _ _ _ ∙ ap (λ w. divided *ℚ w) inverts ∙ *ℚ-one _ ∙ p, λ wide. kept (subst (λ q. Exceeds limit q) (quotient_is wide) wide.passes))
+    (ap (λ w. w *ℚ c o) exact ∙ *ℚ_assoc _ _ _ ∙ ap (λ w. divided *ℚ w) inverts ∙ *ℚ-one _ ∙ p, λ wide. kept (subst (λ q. Exceeds limit q) (quotient_is wide) wide.overflows))
   where
     quotient_is : (wide : QuotientExceeds limit (dividend b o c k) (c o)) → wide.quotient ≡ divided *ℚ factor
     quotient_is wide =

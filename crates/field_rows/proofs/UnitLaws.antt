@@ -81,7 +81,7 @@ quotient_exact n m small some = sym (whole-product (n *ℤ m) m) ∙ ap whole (t
 
 pub quotient_kept : (n m : ℤ) → unsigned_abs m ≤ 1 → (whole m ≡ whole (pos 0) → ⊥) → unsigned_abs (n *ℤ m) ≤ 1 → QuotientExceeds 1 (whole n) (whole m) → ⊥
 quotient_kept n m small some size wide =
-    whole-kept 1 (n *ℤ m) (lit≤ tt) size (subst (λ q. Exceeds 1 q) (*ℚ_cancel wide.quotient (whole (n *ℤ m)) (whole m) some (wide.divides ∙ sym (quotient_exact n m small some))) wide.passes)
+    whole-kept 1 (n *ℤ m) (lit≤ tt) size (subst (λ q. Exceeds 1 q) (*ℚ_cancel wide.quotient (whole (n *ℤ m)) (whole m) some (wide.divides ∙ sym (quotient_exact n m small some))) wide.overflows)
 
 pub minus_one-apart : (one x : ℚ) → one ≡ whole (pos 1) → x ≡ neg_ℚ one → x ≡ whole (pos 0) → ⊥
 minus_one-apart one x is_one is_minus is_zero =

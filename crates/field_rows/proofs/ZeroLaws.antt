@@ -25,16 +25,16 @@ own_numerator q l some same =
 zero_numerator : (p : Ratio) (l : ℕ) → p.num ≡ pos 0 → numerator_over l p ≡ pos 0
 zero_numerator p l none = ap (λ n. n *ℤ pos (l / p.den)) none ∙ (omega (arith, ints))
 
--- what passes where zero is brought to the other number's denominator
-passes_alone : (limit : ℕ) (q : Ratio) (z n s : ℤ) (l : ℕ) → z ≡ pos 0 → n ≡ q.num → s ≡ q.num → l ≡ q.den → (limit < l) ⊎ (limit < unsigned_abs z) ⊎ (limit < unsigned_abs n) ⊎ (limit < unsigned_abs s) → (limit < unsigned_abs q.num) ⊎ (limit < q.den)
-passes_alone limit q z n s l zero same sum over (inl h) = inr (omega arith)
-passes_alone limit q z n s l zero same sum over (inr (inl h)) =
+-- what overflows where zero is brought to the other number's denominator
+overflows_alone : (limit : ℕ) (q : Ratio) (z n s : ℤ) (l : ℕ) → z ≡ pos 0 → n ≡ q.num → s ≡ q.num → l ≡ q.den → (limit < l) ⊎ (limit < unsigned_abs z) ⊎ (limit < unsigned_abs n) ⊎ (limit < unsigned_abs s) → (limit < unsigned_abs q.num) ⊎ (limit < q.den)
+overflows_alone limit q z n s l zero same sum over (inl h) = inr (omega arith)
+overflows_alone limit q z n s l zero same sum over (inr (inl h)) =
     let none : unsigned_abs z ≡ 0 = ap unsigned_abs zero in absurd (omega arith)
-passes_alone limit q z n s l zero same sum over (inr (inr (inl h))) = inl (subst (λ k. limit < unsigned_abs k) same h)
-passes_alone limit q z n s l zero same sum over (inr (inr (inr h))) = inl (subst (λ k. limit < unsigned_abs k) sum h)
+overflows_alone limit q z n s l zero same sum over (inr (inr (inl h))) = inl (subst (λ k. limit < unsigned_abs k) same h)
+overflows_alone limit q z n s l zero same sum over (inr (inr (inr h))) = inl (subst (λ k. limit < unsigned_abs k) sum h)
 
 zero_sum : (limit : ℕ) (x : ℚ) → SumIsWide limit (whole (pos 0)) x → Exceeds limit x
-zero_sum limit x wide = record { pair = wide.right; lowest = wide.right_lowest; passes = passes_alone limit wide.right _ _ _ wide.over zero own sum over wide.passes }
+zero_sum limit x wide = record { pair = wide.right; lowest = wide.right_lowest; overflows = overflows_alone limit wide.right _ _ _ wide.over zero own sum over wide.overflows }
   where
     left : wide.left ≡ over_one (pos 0)
     left = lowest_whole wide.left (pos 0) wide.left_lowest
@@ -66,7 +66,7 @@ SumIsWide-swap limit x y wide = record {
   left_lowest = wide.right_lowest;
   right_lowest = wide.left_lowest;
   least = (wide.least.1, wide.least.0, λ m a b. wide.least.2 m b a);
-  passes = swapped limit (numerator_over wide.over wide.left) (numerator_over wide.over wide.right) wide.over wide.passes;
+  overflows = swapped limit (numerator_over wide.over wide.left) (numerator_over wide.over wide.right) wide.over wide.overflows;
 }
 
 pub zero_exceeds_not : (limit : ℕ) → 1 ≤ limit → Exceeds limit (whole (pos 0)) → ⊥

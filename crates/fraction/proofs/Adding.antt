@@ -11,11 +11,11 @@ use Rattle.lowest_terms.specs.Coprime.{IsCoprime}
 use Rattle.lowest_terms.proofs.CoprimeLaws.{IsCoprime-swap, IsCoprime-divisor}
 use Rattle.lowest_terms.proofs.Reduction.{size_some, size-product}
 use Rattle.whole.proofs.Integers.{*ℤ_assoc}
-use Rattle.fraction.specs.Sums.{SumPasses}
+use Rattle.fraction.specs.Sums.{SumOverflows}
 use Rattle.fraction.specs.Value.{ratio, rational, in_lowest_terms}
 use Rattle.fraction.proofs.Pairs.{sum_wide_not}
 use Rattle.fraction.proofs.ProductLaws.{coprime_to_both}
-use Rattle.fraction.proofs.SumLaws.{sum_coprime, sum_value, common_denominator, passes_from_exceeds, exceeds_from_passes}
+use Rattle.fraction.proofs.SumLaws.{sum_coprime, sum_value, common_denominator, overflows_from_exceeds, exceeds_from_overflows}
 
 pub record IsBrought (m b n d x y g : ℤ) : Type 0 where
   pub left_lowest : IsCoprime (unsigned_abs m) (unsigned_abs b)
@@ -27,14 +27,14 @@ pub record IsBrought (m b n d x y g : ℤ) : Type 0 where
   pub g_some : pos 1 ≤ℤ g
   pub lowest : IsCoprime (unsigned_abs x) (unsigned_abs y)
 
--- what a sum gives: its numerator shares no divisor with the two parts of the denominator, and what passes tells
+-- what a sum gives: its numerator shares no divisor with the two parts of the denominator, and what overflows tells
 -- whether the sum is too wide
 pub record Sums (limit : ℕ) (m b n d x y g : ℤ) (left : pos 1 ≤ℤ b) (right : pos 1 ≤ℤ d) : Type 0 where
   pub first_coprime : IsCoprime (unsigned_abs (m *ℤ y +ℤ n *ℤ x)) (unsigned_abs x)
   pub second_coprime : IsCoprime (unsigned_abs (m *ℤ y +ℤ n *ℤ x)) (unsigned_abs y)
   pub value : (both : pos 1 ≤ℤ (x *ℤ (y *ℤ g))) → rational m b left +ℚ rational n d right ≡ rational (m *ℤ y +ℤ n *ℤ x) (x *ℤ (y *ℤ g)) both
-  pub wide : SumPasses limit m n x y d → SumIsWide limit (rational m b left) (rational n d right)
-  pub kept : (SumPasses limit m n x y d → ⊥) → SumIsWide limit (rational m b left) (rational n d right) → ⊥
+  pub wide : SumOverflows limit m n x y d → SumIsWide limit (rational m b left) (rational n d right)
+  pub kept : (SumOverflows limit m n x y d → ⊥) → SumIsWide limit (rational m b left) (rational n d right) → ⊥
 
 sums_of_naturals : (limit : ℕ) (m n : ℤ) (x y g : ℕ) → 0 < x → 0 < y → 0 < g → IsCoprime x y → IsCoprime (unsigned_abs m) (x * g) → IsCoprime (unsigned_abs n) (y * g) → (left : pos 1 ≤ℤ pos (x * g)) (right : pos 1 ≤ℤ pos (y * g)) → Sums limit m (pos (x * g)) n (pos (y * g)) (pos x) (pos y) (pos g) left right
 sums_of_naturals limit m n x y g px py pg apart m_lowest n_lowest left right = record {
@@ -50,13 +50,13 @@ sums_of_naturals limit m n x y g px py pg apart m_lowest n_lowest left right = r
     left_lowest = in_lowest_terms m (pos (x * g)) left m_lowest;
     right_lowest = in_lowest_terms n (pos (y * g)) right n_lowest;
     least = common_denominator x y g px py pg apart m n;
-    passes = exceeds_from_passes x y g px py pg apart limit m n h;
+    overflows = exceeds_from_overflows x y g px py pg apart limit m n h;
   };
   kept = λ none. sum_wide_not limit (ratio m (pos (x * g))) (ratio n (pos (y * g))) (x * (y * g)) _ _
       (in_lowest_terms m (pos (x * g)) left m_lowest)
       (in_lowest_terms n (pos (y * g)) right n_lowest)
       (common_denominator x y g px py pg apart m n)
-      (λ h. none (passes_from_exceeds x y g px py pg apart limit m n h));
+      (λ h. none (overflows_from_exceeds x y g px py pg apart limit m n h));
 }
 
 pub sums : (limit : ℕ) (m b n d x y g : ℤ) → IsBrought m b n d x y g → (left : pos 1 ≤ℤ b) (right : pos 1 ≤ℤ d) → Sums limit m b n d x y g left right
@@ -74,10 +74,10 @@ sums limit m b n d (pos x) (pos y) (negsuc g) c = absurd (omega (arith, ints, c.
 within_unless : (limit n : ℕ) → (limit < n → ⊥) → n ≤ limit
 within_unless limit n not = elim (cases_lt limit n) [ inl h ↦ absurd (not h) | inr h ↦ h ]
 
-pub sum_within : (limit : ℕ) (m n x y d : ℤ) → (SumPasses limit m n x y d → ⊥) → unsigned_abs (m *ℤ y +ℤ n *ℤ x) ≤ limit
+pub sum_within : (limit : ℕ) (m n x y d : ℤ) → (SumOverflows limit m n x y d → ⊥) → unsigned_abs (m *ℤ y +ℤ n *ℤ x) ≤ limit
 sum_within limit m n x y d none = within_unless limit _ (λ h. none (inr (inr (inr h))))
 
-pub over_within : (limit : ℕ) (m n x y d : ℤ) → (SumPasses limit m n x y d → ⊥) → unsigned_abs (x *ℤ d) ≤ limit
+pub over_within : (limit : ℕ) (m n x y d : ℤ) → (SumOverflows limit m n x y d → ⊥) → unsigned_abs (x *ℤ d) ≤ limit
 over_within limit m n x y d none = within_unless limit _ (λ h. none (inl h))
 
 -- ---- the sum in lowest terms

@@ -14,7 +14,7 @@ use Rattle.fraction.proofs.Pairs.{exceeds_not}
 
 pub exceeds : (limit : ℕ) (num den : ℤ) (some : pos 1 ≤ℤ den) (x : ℚ) → IsCoprime (unsigned_abs num) (unsigned_abs den) → x ≡ rational num den some → (limit < unsigned_abs num) ⊎ (limit < unsigned_abs den) → Exceeds limit x
 exceeds limit num den some x lowest e h =
-    subst (Exceeds limit) (sym e) (record { pair = ratio num den; lowest = in_lowest_terms num den some lowest; passes = h })
+    subst (Exceeds limit) (sym e) (record { pair = ratio num den; lowest = in_lowest_terms num den some lowest; overflows = h })
 
 -- both parts times one number make the same fraction
 pub scaled_value : (num den common n d : ℤ) (left : pos 1 ≤ℤ den) (right : pos 1 ≤ℤ d) → num *ℤ common ≡ n → den *ℤ common ≡ d → rational num den left ≡ rational n d right
@@ -41,11 +41,11 @@ module _ (num den common n d : ℤ) (left : pos 1 ≤ℤ den) (right : pos 1 ≤
   reduced_wide limit h = record {
     quotient = rational num den left;
     divides = reduced_divides;
-    passes = record { pair = ratio num den; lowest = in_lowest_terms num den left lowest; passes = h };
+    overflows = record { pair = ratio num den; lowest = in_lowest_terms num den left lowest; overflows = h };
   }
 
   pub reduced_kept : (limit : ℕ) → unsigned_abs num ≤ limit → unsigned_abs den ≤ limit → QuotientExceeds limit (whole n) (whole d) → ⊥
   reduced_kept limit p q e =
       let same : e.quotient ≡ rational num den left =
       *ℚ_cancel e.quotient (rational num den left) (whole d) (whole_apart d right) (e.divides ∙ sym reduced_divides) in
-      exceeds_not limit (ratio num den) (rational num den left) (in_lowest_terms num den left lowest) p q (subst (Exceeds limit) same e.passes)
+      exceeds_not limit (ratio num den) (rational num den left) (in_lowest_terms num den left lowest) p q (subst (Exceeds limit) same e.overflows)

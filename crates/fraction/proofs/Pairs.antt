@@ -14,7 +14,7 @@ same_pair p q x left right =
     ap₂ (λ n d. record { num = n; den = d }) same.0 same.1
 
 pub exceeds_not : (limit : ℕ) (p : Ratio) (x : ℚ) → InLowestTerms p x → unsigned_abs p.num ≤ limit → p.den ≤ limit → Exceeds limit x → ⊥
-exceeds_not limit p x lowest num den e = by (e.passes)
+exceeds_not limit p x lowest num den e = by (e.overflows)
   where
     by : (limit < unsigned_abs e.pair.num) ⊎ (limit < e.pair.den) → ⊥
     by (inl h) = let at : limit < unsigned_abs p.num = subst (λ q. limit < unsigned_abs q.num) (same_pair e.pair p x e.lowest lowest) h in omega arith
@@ -26,4 +26,4 @@ sum_wide_not limit p q l x y left right least kept w =
     let same_right = same_pair w.right q y w.right_lowest right in
     let moved : IsCommonDenominator p q w.over = subst₂ (λ r s. IsCommonDenominator r s w.over) same_left same_right w.least in
     let same_over : w.over ≡ l = same_from_IsLcm p.den q.den w.over l moved least in
-    kept (subst (SumExceeds limit p q) same_over (subst₂ (λ r s. SumExceeds limit r s w.over) same_left same_right w.passes))
+    kept (subst (SumExceeds limit p q) same_over (subst₂ (λ r s. SumExceeds limit r s w.over) same_left same_right w.overflows))

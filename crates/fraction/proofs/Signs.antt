@@ -55,11 +55,11 @@ module _ (x y i : ℚ) (inverse : i *ℚ y ≡ whole (pos 1)) where
   quotient_divides = *ℚ_assoc x i y ∙ ap (λ v. x *ℚ v) inverse ∙ *ℚ-one x
 
   pub quotient_wide : (limit : ℕ) → Exceeds limit (x *ℚ i) → QuotientExceeds limit x y
-  quotient_wide limit h = record { quotient = x *ℚ i; divides = quotient_divides; passes = h }
+  quotient_wide limit h = record { quotient = x *ℚ i; divides = quotient_divides; overflows = h }
 
   pub quotient_kept : (limit : ℕ) → (Exceeds limit (x *ℚ i) → ⊥) → QuotientExceeds limit x y → ⊥
   quotient_kept limit not e =
-      not (subst (Exceeds limit) (cancel_by_inverse e.quotient (x *ℚ i) y i inverse (e.divides ∙ sym quotient_divides)) e.passes)
+      not (subst (Exceeds limit) (cancel_by_inverse e.quotient (x *ℚ i) y i inverse (e.divides ∙ sym quotient_divides)) e.overflows)
 
 -- ---- the sign
 

@@ -13,7 +13,7 @@ use Rattle.ordered_field.specs.LowestTerms.{IsCommonDenominator}
 use Rattle.ordered_field.specs.Wideness.{SumExceeds}
 use Rattle.lowest_terms.specs.Coprime.{IsCoprime}
 use Rattle.lowest_terms.proofs.CoprimeLaws.{dvd_from_coprime, dvd-lcm_of_parts, IsCoprime-divisor, IsCoprime-swap}
-use Rattle.fraction.specs.Sums.{SumPasses}
+use Rattle.fraction.specs.Sums.{SumOverflows}
 
 difference_size : (a b : ℕ) → (a ≡ unsigned_abs (sub_ℕ a b) + b) ⊎ (b ≡ unsigned_abs (sub_ℕ a b) + a)
 difference_size a b = by (ltb a b) refl
@@ -65,12 +65,12 @@ module _ (x y g : ℕ) (px : 0 < x) (py : 0 < y) (pg : 0 < g) (apart : IsCoprime
   pub right_part : x * (y * g) / (y * g) ≡ x
   right_part = mul-div_cancel x (mul-pos py pg)
 
-  pub passes_from_exceeds : (limit : ℕ) (m n : ℤ) → SumExceeds limit (record { num = m; den = x * g }) (record { num = n; den = y * g }) (x * (y * g)) → SumPasses limit m n (pos x) (pos y) (pos (y * g))
-  passes_from_exceeds limit m n h =
+  pub overflows_from_exceeds : (limit : ℕ) (m n : ℤ) → SumExceeds limit (record { num = m; den = x * g }) (record { num = n; den = y * g }) (x * (y * g)) → SumOverflows limit m n (pos x) (pos y) (pos (y * g))
+  overflows_from_exceeds limit m n h =
       subst₂ (λ a b. (limit < x * (y * g)) ⊎ (limit < unsigned_abs (m *ℤ pos a)) ⊎ (limit < unsigned_abs (n *ℤ pos b)) ⊎ (limit < unsigned_abs (m *ℤ pos a +ℤ n *ℤ pos b))) left_part right_part h
 
-  pub exceeds_from_passes : (limit : ℕ) (m n : ℤ) → SumPasses limit m n (pos x) (pos y) (pos (y * g)) → SumExceeds limit (record { num = m; den = x * g }) (record { num = n; den = y * g }) (x * (y * g))
-  exceeds_from_passes limit m n h =
+  pub exceeds_from_overflows : (limit : ℕ) (m n : ℤ) → SumOverflows limit m n (pos x) (pos y) (pos (y * g)) → SumExceeds limit (record { num = m; den = x * g }) (record { num = n; den = y * g }) (x * (y * g))
+  exceeds_from_overflows limit m n h =
       subst₂ (λ a b. (limit < x * (y * g)) ⊎ (limit < unsigned_abs (m *ℤ pos a)) ⊎ (limit < unsigned_abs (n *ℤ pos b)) ⊎ (limit < unsigned_abs (m *ℤ pos a +ℤ n *ℤ pos b))) (sym left_part) (sym right_part) h
 
 -- ---- the value

@@ -2,7 +2,7 @@
 //!
 //! How does a solver compute exactly, in bounded memory, and still say exactly when a number became too
 //! large? [`Frac`] is an [`OrderedField`](ordered_field::OrderedField): each operation is exact, or
-//! refused exactly where the quantity that it names passes the limit. Sums are formed over the least
+//! refused exactly where the quantity that it names exceeds the limit. Sums are formed over the least
 //! common denominator, products are cancelled crosswise first, and the order is found by quotients and
 //! remainders.
 #![tactic(auto)]

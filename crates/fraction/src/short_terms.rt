@@ -43,7 +43,7 @@ fn widened(common: i64, num: i64, den: i64) -> Reduced
 }
 
 // The greatest common divisor, at once where one of the two is 1.
-#[tactic(auto, using(whole::proofs::Passing::signed))]
+#[tactic(auto, using(whole::proofs::Overflow::signed))]
 fn common_divisor(num: i64, den: i64) -> i64
     requires { pos 1 ≤ℤ den }
     ensures greatest { IsGcd (unsigned_abs num) (unsigned_abs den) (unsigned_abs result) }
@@ -70,7 +70,7 @@ fn divisor_of_sizes(a: u64, b: u64) -> u64
 }
 
 // What is left of `n` over one of its divisors.
-#[tactic(auto, using(whole::proofs::Passing::signed))]
+#[tactic(auto, using(whole::proofs::Overflow::signed))]
 fn quotient(n: i64, divisor: i64) -> i64
     requires positive { pos 1 ≤ℤ divisor }
     requires divides { unsigned_abs divisor ∣ unsigned_abs n }

@@ -1,4 +1,4 @@
-// Whole numbers, their sums and their products, each refused where it passes the limit.
+// Whole numbers, their sums and their products, each refused where it exceeds the limit.
 ghost use Rattle.std.specs.Prelude.{◌≡◌, ◌≤◌, ◌<◌, ◌+ℤ◌, ◌*ℤ◌, unsigned_abs, IfOk, OnOk, OnErr, SomeIff, FitsSigned};
 ghost use Rattle.std.specs.Int.{w128};
 
@@ -43,7 +43,7 @@ pub fn bounded_product<L: Limit>(a: i128, b: i128) -> Result<i128, Wide>
 }
 
 // The product where it fits; that of two short numbers does, and isn't tested.
-#[tactic(auto, using(whole::proofs::Passing::signed))]
+#[tactic(auto, using(whole::proofs::Overflow::signed))]
 fn product(a: i128, b: i128) -> Option<i128>
     ensures { SomeIff result (FitsSigned w128 (a *ℤ b)) (a *ℤ b) }
 {

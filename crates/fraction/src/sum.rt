@@ -2,7 +2,7 @@
 ghost use Rattle.std.specs.Prelude.{◌≡◌, ◌≤ℤ◌, pos, ◌+ℤ◌, ◌*ℤ◌, unsigned_abs, IfOk, OnOk, OnErr};
 ghost use Rattle.whole.specs.Numbers.{IsWithin};
 ghost use Rattle.lowest_terms.specs.Coprime.{IsCoprime};
-ghost use Rattle.fraction.specs.Sums.{SumPasses};
+ghost use Rattle.fraction.specs.Sums.{SumOverflows};
 
 use crate::limit::Limit;
 use crate::sized::{bounded_product, bounded_sum};
@@ -34,8 +34,8 @@ pub fn denominators(b: i128, d: i128) -> Reduced
 // in lowest terms.
 pub fn common_numerator<L: Limit>(m: i128, n: i128, d: i128, dens: Reduced) -> Result<i128, Wide>
     ensures exact { IfOk result (λ num. num ≡ m *ℤ dens.den +ℤ n *ℤ dens.num) }
-    ensures kept { OnOk result (¬ SumPasses L.LIMIT m n dens.num dens.den d) }
-    ensures wide { OnErr result (SumPasses L.LIMIT m n dens.num dens.den d) }
+    ensures kept { OnOk result (¬ SumOverflows L.LIMIT m n dens.num dens.den d) }
+    ensures wide { OnErr result (SumOverflows L.LIMIT m n dens.num dens.den d) }
 {
     let _over = bounded_product::<L>(dens.num, d)?;
     let left = bounded_product::<L>(m, dens.den)?;

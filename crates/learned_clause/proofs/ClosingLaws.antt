@@ -7,7 +7,7 @@ use Rattle.farkas_cert.specs.declared.literals.Lit.{Lit}
 use Rattle.farkas_cert.specs.declared.trees.Part.{Part}
 use Rattle.clause_form.specs.Derivations.{ArePartsOf, Closes, Has, HasAtom, IsContradiction, IsFalseOn, Rows}
 use Rattle.clause_form.specs.Journals.{Entry, IsFree, OthersFalse, literals}
-use Rattle.learned_clause.specs.Walks.{ClosesAll, NoneOn, is_on, resolved}
+use Rattle.learned_clause.specs.Resolvents.{ClosesAll, NoneOn, is_on, resolved}
 use Rattle.learned_clause.proofs.MemberLaws.{Has-front, Has-last, Has-push, Has-HasAtom, HasAtom-Has}
 use Rattle.learned_clause.proofs.PlaceLaws.{place-Has, front-Has, Has-place, Has-front_place, place_within}
 

@@ -10,7 +10,7 @@ use Rattle.clause_form.specs.Journals.{Entry, IsOpenClause, OthersFalse, literal
 use Rattle.learned_clause.specs.Learning.{CutsTo, IsLearnedFrom}
 use Rattle.learned_clause.specs.Resolutions.{AreFalseAt, AtomAt, HasOneFrom, IsLearnedBy, IsLearnedClause, KeepsOthers}
 use Rattle.learned_clause.specs.Trails.{DecidedAt, IsTrail}
-use Rattle.learned_clause.specs.Walks.{AreApart, IsFirstDecision, IsLastOn, IsLeastCut, IsResolved, IsWalk, OnAt, held, is_on}
+use Rattle.learned_clause.specs.Resolvents.{AreApart, IsFirstDecision, IsLastOn, IsLeastCut, IsResolved, IsWalk, OnAt, held, is_on}
 use Rattle.learned_clause.specs.declared.learning.Start.{Start}
 use Rattle.learned_clause.specs.declared.marks.Marks.{Marks}
 use Rattle.learned_clause.proofs.MemberLaws.{Has-held, Has-negation, HasAtom-Has, false-at, false-negations, held-Has, map-negation-negation, negation-Has, once-held, once-negations, others-at, others-negations}

@@ -9,7 +9,7 @@ use Rattle.farkas_cert.specs.declared.literals.Lit.{Lit}
 use Rattle.farkas_cert.specs.declared.trees.Part.{Part}
 use Rattle.clause_form.specs.WellFormed.{Below}
 use Rattle.learned_clause.specs.LightTrees.{AreWithin}
-use Rattle.learned_clause.specs.Walks.{AreMarked, IsLower, IsLowest, IsMarked, NoneNegative, is_on}
+use Rattle.learned_clause.specs.Resolvents.{AreMarked, IsLower, IsLowest, IsMarked, NoneNegative, is_on}
 use Rattle.learned_clause.specs.declared.marks.Marks.{Marks}
 use Rattle.learned_clause.proofs.MemberLaws.{Has-push, HasAtom-front, HasAtom-last}
 

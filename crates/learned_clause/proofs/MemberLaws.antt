@@ -5,7 +5,7 @@ use Rattle.farkas_cert.specs.Literals.{negation}
 use Rattle.farkas_cert.specs.declared.literals.Lit.{Lit}
 use Rattle.clause_form.specs.Derivations.{Has, HasAtom, IsFalseOn, NamesOnce}
 use Rattle.clause_form.specs.Journals.{IsFree, OthersFalse}
-use Rattle.learned_clause.specs.Walks.{held, is_on}
+use Rattle.learned_clause.specs.Resolvents.{held, is_on}
 
 pub Has-front : (l : Lit) (xs ys : List Lit) → Has l xs → Has l (xs ++ ys)
 Has-front l [] ys h = absurd h

@@ -6,7 +6,7 @@ use Rattle.farkas_cert.specs.declared.literals.Lit.{Lit}
 use Rattle.clause_form.specs.Derivations.{Has, HasAtom, NamesOnce}
 use Rattle.clause_form.specs.Journals.{Entry, literals}
 use Rattle.learned_clause.specs.Trails.{IsTrail}
-use Rattle.learned_clause.specs.Walks.{AreApart}
+use Rattle.learned_clause.specs.Resolvents.{AreApart}
 use Rattle.learned_clause.proofs.MemberLaws.{Has-HasAtom, HasAtom-Has, once-push}
 
 pub place_within : (T : List Entry) (k : ℕ) (e : Entry) → slice_get T k ≡ Some e → k < length T

@@ -11,7 +11,7 @@ use Rattle.clause_form.specs.Journals.{Entry, OthersFalse, literals}
 use Rattle.learned_clause.specs.Learning.{IsFalseStart}
 use Rattle.learned_clause.specs.Resolutions.{AreFalseAt, HasNoLevel, HaveSame, IsLevelOf, IsResolvent, LiteralAt, NoneFrom, Resolve, Resolves}
 use Rattle.learned_clause.specs.Trails.{DecidedAt, IsTrail}
-use Rattle.learned_clause.specs.Walks.{AreApart, AreFresh, AreMarked, AreOn, IsLastDecision, IsLastOn, IsResolved, IsWalk, OnAt, held, is_on, so_far}
+use Rattle.learned_clause.specs.Resolvents.{AreApart, AreFresh, AreMarked, AreOn, IsLastDecision, IsLastOn, IsResolved, IsWalk, OnAt, held, is_on, so_far}
 use Rattle.learned_clause.specs.declared.learning.Start.{Start}
 use Rattle.learned_clause.specs.declared.learning.Start.TheVariants.{Clause, Clash}
 use Rattle.learned_clause.specs.declared.marks.Marks.{Marks}

@@ -13,7 +13,7 @@ use Rattle.clause_form.specs.WellFormed.{Below}
 use Rattle.learned_clause.specs.Learning.{IsFalseStart}
 use Rattle.learned_clause.specs.LightTrees.{AreWithin, HasLightLeaves, depth}
 use Rattle.learned_clause.specs.Trails.{DecidedAt, IsFounded, IsTrail, entries, entry}
-use Rattle.learned_clause.specs.Walks.{AreApart, AreFresh, AreMarked, AreRanked, ClosesAll, IsBegun, IsFirstOn, IsLastDecision, IsLastOn, IsLevel, IsLowest, IsLowestRank, IsWalk, NoneNegative, OnAt, held, is_on, resolved}
+use Rattle.learned_clause.specs.Resolvents.{AreApart, AreFresh, AreMarked, AreRanked, ClosesAll, IsBegun, IsFirstOn, IsLastDecision, IsLastOn, IsLevel, IsLowest, IsLowestRank, IsWalk, NoneNegative, OnAt, held, is_on, resolved}
 use Rattle.learned_clause.specs.declared.learning.Start.TheVariants.{Clash, Clause}
 use Rattle.learned_clause.specs.declared.marks.Marks.{Marks}
 use Rattle.learned_clause.specs.declared.trails.Assigned.{Assigned}

@@ -3,4 +3,4 @@ pub mod Learning
 pub mod LightTrees
 pub mod Resolutions
 pub mod Trails
-pub mod Walks
+pub mod Resolvents

@@ -6,7 +6,7 @@ ghost use Rattle.farkas_cert.specs.declared.literals.Lit.{Lit};
 ghost use Rattle.clause_form.specs.Derivations.{Rows};
 ghost use Rattle.clause_form.specs.Journals.{literals};
 ghost use Rattle.learned_clause.specs.Trails.{DecidedAt, IsTrail, entries};
-ghost use Rattle.learned_clause.specs.Walks.{AreOn, IsBegun, IsLastOn, IsLeastCut, IsLowestRank, IsResolved, IsWalk, held};
+ghost use Rattle.learned_clause.specs.Resolvents.{AreOn, IsBegun, IsLastOn, IsLeastCut, IsLowestRank, IsResolved, IsWalk, held};
 
 use crate::marks::Marks;
 use crate::scans::{first_decision, first_on, last_decision, last_on};

@@ -3,7 +3,7 @@ ghost use Rattle.std.specs.Prelude.{◌≡◌, ◌<◌, ◌^◌, ◌≤ℤ◌, l
 ghost use Rattle.clause_form.specs.WellFormed.{Below};
 ghost use Rattle.learned_clause.specs.LightTrees.{AreWithin};
 ghost use Rattle.learned_clause.specs.Trails.{entries};
-ghost use Rattle.learned_clause.specs.Walks.{AreApart, AreFresh, AreMarked, IsLower, IsMarked, NoneNegative, is_on};
+ghost use Rattle.learned_clause.specs.Resolvents.{AreApart, AreFresh, AreMarked, IsLower, IsMarked, NoneNegative, is_on};
 
 use crate::trails::{Assigned, at};
 use farkas_cert::{Lit, Part};

@@ -7,7 +7,7 @@ ghost use Rattle.clause_form.specs.Journals.{literals};
 ghost use Rattle.learned_clause.specs.Learning.{IsFalseStart};
 ghost use Rattle.learned_clause.specs.Resolutions.{AreFalseAt};
 ghost use Rattle.learned_clause.specs.Trails.{IsTrail, entries, known_with};
-ghost use Rattle.learned_clause.specs.Walks.{AreFresh, AreOn, IsBegun, IsResolved, IsWalk, resolved};
+ghost use Rattle.learned_clause.specs.Resolvents.{AreFresh, AreOn, IsBegun, IsResolved, IsWalk, resolved};
 
 use crate::learning::Start;
 use crate::marks::Marks;

@@ -1,7 +1,7 @@
 // Looks along the trail.
 ghost use Rattle.std.specs.Prelude.{◌≤◌, length};
 ghost use Rattle.learned_clause.specs.Trails.{entries};
-ghost use Rattle.learned_clause.specs.Walks.{IsFirstDecision, IsFirstOn, IsLastDecision, IsLastOn};
+ghost use Rattle.learned_clause.specs.Resolvents.{IsFirstDecision, IsFirstOn, IsLastDecision, IsLastOn};
 
 use crate::marks::Marks;
 use crate::trails::{Assigned, at};

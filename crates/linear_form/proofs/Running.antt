@@ -5,7 +5,7 @@ use Rattle.std.specs.Option.{option_and_then}
 use Rattle.std.proofs.lemmas.Int.{ints, to_z-of_z, fits_signed_from_abs}
 use Rattle.std.proofs.lemmas.List.{drop_all}
 use Rattle.whole.specs.Numbers.{IsWithin, fma}
-use Rattle.whole.proofs.Passing.{fma_some}
+use Rattle.whole.proofs.Overflow.{fma_some}
 use Rattle.linear_form.specs.declared.lists.Term.{Term}
 use Rattle.linear_form.specs.Sums.{sum_of, running, entry}
 

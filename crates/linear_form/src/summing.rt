@@ -42,7 +42,7 @@ mod tests {
         };
         // 2 * 5 - 3 * 7; column 1 has no term
         assert_eq!(rt; sum_at(&form, &[5, 100, 7]), Some(-11));
-        // 2 * 2^126 passes, although the sum would be 0
+        // 2 * 2^126 overflows, although the sum would be 0
         assert_eq!(rt; sum_at(&form, &[1 << 126, 0, 1 << 125]), None);
         Ok(())
     }

@@ -23,7 +23,7 @@ pub struct Reduced {
 /// `num / den` in lowest terms; `den` is at least 1, and `num` isn't `i128::MIN`.
 ///
 /// By Euclid (Elements, book VII, propositions 20 to 22).
-#[tactic(auto, using(whole::proofs::Passing::signed))]
+#[tactic(auto, using(whole::proofs::Overflow::signed))]
 pub fn reduce(num: i128, den: i128) -> Reduced
     requires within { IsWithin num }
     requires positive { pos 1 ≤ℤ den }
@@ -46,7 +46,7 @@ pub fn reduce(num: i128, den: i128) -> Reduced
 }
 
 // The greatest common divisor, at once where one of the two is 1.
-#[tactic(auto, using(whole::proofs::Passing::signed))]
+#[tactic(auto, using(whole::proofs::Overflow::signed))]
 fn common_divisor(num: i128, den: i128) -> i128
     requires within { IsWithin num }
     requires positive { pos 1 ≤ℤ den }
@@ -60,7 +60,7 @@ fn common_divisor(num: i128, den: i128) -> i128
 }
 
 // What is left of `n` over one of its divisors.
-#[tactic(auto, using(whole::proofs::Passing::signed))]
+#[tactic(auto, using(whole::proofs::Overflow::signed))]
 fn quotient(n: i128, divisor: i128) -> i128
     requires positive { pos 1 ≤ℤ divisor }
     requires divides { unsigned_abs divisor ∣ unsigned_abs n }

@@ -15,7 +15,7 @@ pub never_stuck : (c : Clauses) (stuck : Stuck) → IsWellFormed c → IsStuckCo
 never_stuck c stuck formed is =
     let good = formed.forms is.number is.form is.listed in
     let small : unsigned_abs is.term.coef < 10 ^ 16 = All-contains (λ t. unsigned_abs t.coef < 10 ^ 16) is.form.terms is.term good.small is.of_form in
-    let passes = is.passes in
+    let overflows = is.overflows in
     omega arith
 
 pub never_stuck_fault : (c : Clauses) (fault : LraFault) (stuck : Stuck) → fault ≡ faults.Stuck stuck → IsWellFormed c

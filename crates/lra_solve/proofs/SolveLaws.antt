@@ -7,7 +7,7 @@ use Rattle.fraction.specs.declared.mixed.MixedFrac.{MixedFrac}
 use Rattle.linear_form.specs.Sums.{entry}
 use Rattle.farkas_cert.specs.declared.certificates.Cert.{Cert}
 use Rattle.clause_form.specs.Derivations.{Rows, rows_of}
-use Rattle.clause_form.specs.Theories.{AreMet, HasSolution, Relations, Seen}
+use Rattle.clause_form.specs.Theories.{AreMet, HasSolution, Relations, TheoryView}
 use Rattle.clause_form.specs.WellFormed.{IsWellFormed}
 use Rattle.clause_form.specs.declared.clauses.Clauses.{Clauses}
 use Rattle.clause_search.specs.Answers.{IsAssignment, starting_at}
@@ -30,7 +30,7 @@ abbrev the_relations : Relations (State MixedFrac)
 the_relations = relations limit value_of
 
 -- the theory of these clauses' rows, to which nothing was told, is one to begin with, and nothing is spent
-pub search_starts : (c : Clauses) (budget : ℕ) (s : Seen (State MixedFrac)) (n : Counts) → IsWellFormed c → IsFresh limit value_of c s → budget ≤ 2 ^ 31
+pub search_starts : (c : Clauses) (budget : ℕ) (s : TheoryView (State MixedFrac)) (n : Counts) → IsWellFormed c → IsFresh limit value_of c s → budget ≤ 2 ^ 31
     → n ≡ opening budget → search.IsStart the_relations c s n
 search_starts c budget s n formed fresh few none =
     let within : n.limit ≡ budget = ap (λ (m : Counts). m.limit) none in
@@ -58,7 +58,7 @@ module _ (c : Clauses) (budget : ℕ) (start : State MixedFrac) (opens : IsOpeni
       let most = spent.budget.within in
       record { limit_is = within; tally = tally; at_most = omega arith }
 
-  total_at : (s : Seen (State MixedFrac)) (truths : List Bool) (spent : Spent) → s.rows ≡ rows_of c → spent.budget.limit ≡ budget
+  total_at : (s : TheoryView (State MixedFrac)) (truths : List Bool) (spent : Spent) → s.rows ≡ rows_of c → spent.budget.limit ≡ budget
       → (total : search.IsTotal from_start c s (counts spent.budget) truths spent.journal.moves)
       → IsTotalAt c budget truths total.reached.place spent
   total_at s truths spent rows within total = record {
@@ -75,7 +75,7 @@ module _ (c : Clauses) (budget : ℕ) (start : State MixedFrac) (opens : IsOpeni
   }
 
   -- a model, at the corner of the state that the journal reaches
-  found_law : (s : Seen (State MixedFrac)) (truths : List Bool) (values : Values) (spent : Spent) → s.rows ≡ rows_of c → spent.budget.limit ≡ budget
+  found_law : (s : TheoryView (State MixedFrac)) (truths : List Bool) (values : Values) (spent : Spent) → s.rows ≡ rows_of c → spent.budget.limit ≡ budget
       → search.IsTotal from_start c s (counts spent.budget) truths spent.journal.moves → AreValuesOf s values → IsFound c budget values truths spent
   found_law s truths values spent rows within total are =
       let met = subst (λ (r : Rows). AreMet r (entry values.values) (unsigned_abs values.over) s.told) rows are.met in
@@ -89,21 +89,21 @@ module _ (c : Clauses) (budget : ℕ) (start : State MixedFrac) (opens : IsOpeni
         model = told_model c (entry values.values) (unsigned_abs values.over) truths s.told total.atoms total.assignment total.clauses met;
       }
 
-  stuck_total : (s : Seen (State MixedFrac)) (truths : List Bool) (stuck : Stuck) (spent : Spent) → s.rows ≡ rows_of c → spent.budget.limit ≡ budget
+  stuck_total : (s : TheoryView (State MixedFrac)) (truths : List Bool) (stuck : Stuck) (spent : Spent) → s.rows ≡ rows_of c → spent.budget.limit ≡ budget
       → search.IsTotal from_start c s (counts spent.budget) truths spent.journal.moves → IsStuckValue limit s.state.corner stuck
       → IsStuck c budget stuck spent
-  stuck_total s truths stuck spent rows within total passes =
+  stuck_total s truths stuck spent rows within total overflows =
       let at = total_at s truths spent rows within total in
       let there : IsStuckTotal c budget stuck spent = record {
         truths = truths;
         place = total.reached.place;
         total = at;
-        passes = subst (λ (t : State MixedFrac). IsStuckValue limit t.corner stuck) (sym total.reached.state) passes;
+        overflows = subst (λ (t : State MixedFrac). IsStuckValue limit t.corner stuck) (sym total.reached.state) overflows;
       } in
-      record { counted = at.counted; passes = inr there; learned = inr there }
+      record { counted = at.counted; overflows = inr there; learned = inr there }
 
   -- the answer of the values of a total assignment
-  pub valued_law : (s : Seen (State MixedFrac)) (truths : List Bool) (spent : Spent) (answer : Solved) → s.rows ≡ rows_of c → spent.budget.limit ≡ budget
+  pub valued_law : (s : TheoryView (State MixedFrac)) (truths : List Bool) (spent : Spent) (answer : Solved) → s.rows ≡ rows_of c → spent.budget.limit ≡ budget
       → search.IsTotal from_start c s (counts spent.budget) truths spent.journal.moves → IsValued s truths spent answer → Solves c budget answer
   valued_law s truths spent (solved.Model values same kept) rows within total is =
       subst (λ (ts : List Bool). IsFound c budget values ts kept) (sym is.0)
@@ -130,6 +130,6 @@ module _ (c : Clauses) (budget : ℕ) (start : State MixedFrac) (opens : IsOpeni
       → search.IsStuck from_start c (counts spent.budget) stuck spent.journal.moves → IsStuck c budget stuck spent
   stuck_law stuck spent within is = record {
     counted = counted spent within is.tally;
-    passes = inl (sticks_so the_relations c (λ t. t ≡ start) (IsOpeningOf limit value_of c) opened spent.journal.moves stuck is.sticks);
+    overflows = inl (sticks_so the_relations c (λ t. t ≡ start) (IsOpeningOf limit value_of c) opened spent.journal.moves stuck is.sticks);
     learned = inl (sticks_learning_so the_relations c (λ t. t ≡ start) (IsOpeningOf limit value_of c) opened spent.journal.moves stuck is.learned);
   }

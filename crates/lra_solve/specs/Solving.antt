@@ -11,9 +11,9 @@ use Rattle.linear_form.specs.Sums.{entry}
 use Rattle.farkas_cert.specs.declared.certificates.Cert.{Cert}
 use Rattle.farkas_cert.specs.declared.journals.Move.{Move}
 use Rattle.clause_form.specs.Derivations.{Proves, rows_of}
-use Rattle.clause_form.specs.Journals.{IsOpen, Place, Reaches, Sticks, literals}
+use Rattle.clause_form.specs.Journals.{IsOpen, Reached, Reaches, Sticks, literals}
 use Rattle.clause_form.specs.Models.{IsModel, Satisfies}
-use Rattle.clause_form.specs.Theories.{AreMet, HasSolution, Relations, Seen}
+use Rattle.clause_form.specs.Theories.{AreMet, HasSolution, Relations, TheoryView}
 use Rattle.clause_form.specs.declared.clauses.Clauses.{Clauses}
 use Rattle.cert_text.specs.Journals.{how_many, is_decide, is_pivot, is_propagate}
 use Rattle.clause_search.specs.Answers.{AreLight, IsAssignment, IsTally, truth_in}
@@ -38,19 +38,19 @@ abbrev pub theory_of : Clauses → Relations (State MixedFrac)
 theory_of c = opening_with (IsOpeningOf limit value_of c) (relations limit value_of)
 
 -- what a search sees of the theory
-abbrev pub seen_of : Standing MixedFrac → Seen (State MixedFrac)
+abbrev pub seen_of : Standing MixedFrac → TheoryView (State MixedFrac)
 seen_of standing = seen value_of standing
 
 -- the values at the corner of the theory's state, which meet the rows of the literals told
-pub record AreValuesOf (s : Seen (State MixedFrac)) (values : Values) : Type 0 where
+pub record AreValuesOf (s : TheoryView (State MixedFrac)) (values : Values) : Type 0 where
   pub at_corner : AreValuesAt s.state.corner values.over values.values
   pub met : AreMet s.rows (entry values.values) (unsigned_abs values.over) s.told
   pub count : length values.values ≡ s.rows.columns
   pub over_from : pos 1 ≤ℤ values.over
   pub each_in : All IsWithin values.values
 
--- the values of an assignment, or an operation of them that passes
-abbrev pub IsValued : Seen (State MixedFrac) → List Bool → Spent → Solved → Type 0
+-- the values of an assignment, or an operation of them that overflows
+abbrev pub IsValued : TheoryView (State MixedFrac) → List Bool → Spent → Solved → Type 0
 IsValued s truths spent (solved.Model values same kept) = (same ≡ truths) × (kept ≡ spent) × AreValuesOf s values
 IsValued s truths spent (solved.Closed cert) = ⊥
 IsValued s truths spent (solved.Spent kept) = ⊥
@@ -70,7 +70,7 @@ module _ (c : Clauses) (budget : ℕ) where
 
   -- the journal reaches this place, learning, at which each atom is told with its truth, each clause is true, the rows of the literals
   -- told have a common solution, and no variable is violated
-  pub record IsTotalAt (truths : List Bool) (place : Place (State MixedFrac)) (spent : Spent) : Type 0 where
+  pub record IsTotalAt (truths : List Bool) (place : Reached (State MixedFrac)) (spent : Spent) : Type 0 where
     pub counted : IsCounted spent
     pub reached : Reaches (theory_of c) c spent.journal.moves place
     pub learned : ReachesLearning (theory_of c) c spent.journal.moves place
@@ -82,7 +82,7 @@ module _ (c : Clauses) (budget : ℕ) where
 
   -- the values are those at the corner reached, and with the truths they are a model
   pub record IsFound (values : Values) (truths : List Bool) (spent : Spent) : Type 0 where
-    pub place : Place (State MixedFrac)
+    pub place : Reached (State MixedFrac)
     pub total : IsTotalAt truths place spent
     pub at_corner : AreValuesAt place.state.corner values.over values.values
     pub count : length values.values ≡ c.columns
@@ -103,17 +103,17 @@ module _ (c : Clauses) (budget : ℕ) where
     pub goes_on : IsOpen (theory_of c) c spent.journal.moves
     pub learned : IsOpenLearning (theory_of c) c spent.journal.moves
 
-  -- at a total assignment, an operation of epsilon or of the scale passes
+  -- at a total assignment, an operation of epsilon or of the scale overflows
   pub record IsStuckTotal (stuck : Stuck) (spent : Spent) : Type 0 where
     pub truths : List Bool
-    pub place : Place (State MixedFrac)
+    pub place : Reached (State MixedFrac)
     pub total : IsTotalAt truths place spent
-    pub passes : IsStuckValue limit place.state.corner stuck
+    pub overflows : IsStuckValue limit place.state.corner stuck
 
-  -- an operation passes in the last move, or at the place reached, or in the values there
+  -- an operation overflows in the last move, or at the place reached, or in the values there
   pub record IsStuck (stuck : Stuck) (spent : Spent) : Type 0 where
     pub counted : IsCounted spent
-    pub passes : Sticks (theory_of c) c spent.journal.moves stuck ⊎ IsStuckTotal stuck spent
+    pub overflows : Sticks (theory_of c) c spent.journal.moves stuck ⊎ IsStuckTotal stuck spent
     pub learned : SticksLearning (theory_of c) c spent.journal.moves stuck ⊎ IsStuckTotal stuck spent
 
   abbrev pub Solves : Solved → Type 0

@@ -19,8 +19,8 @@ use whole::{Budget, NoMemory};
 /// which is at most `2^31`.
 ///
 /// `Model` gives the values of the columns at the corner that the journal reaches, and the truths of the atoms. `Closed`
-/// gives a certificate that proves, in which no sum that a checker forms passes 128 bits. `Spent` comes only where the
-/// whole budget is spent and the journal may go on. `Stuck` names an operation that passes: in carrying out the journal's
+/// gives a certificate that proves, in which no sum that a checker forms overflows 128 bits. `Spent` comes only where the
+/// whole budget is spent and the journal may go on. `Stuck` names an operation that overflows: in carrying out the journal's
 /// last move, in a conflict at the corner reached, or in the values of a total assignment.
 pub fn solve(alloc: Global, clauses: &Clauses, budget: u64) -> Solved
     requires formed { IsWellFormed clauses.now }

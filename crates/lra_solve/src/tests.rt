@@ -19,7 +19,7 @@ fn one(alloc: Global, atom: u32, positive: bool) -> Result<Lits, NoMemory>
 }
 
 // Atom 1 is `x < num` where strict, and else `x <= num`.
-#[tactic(auto, using(whole::proofs::Passing::signed))]
+#[tactic(auto, using(whole::proofs::Overflow::signed))]
 fn problem(alloc: Global, num: i128, strict: bool) -> Result<Clauses, NoMemory>
     ensures { IfOk result (λ c. c ≡ problem strict num) }
 {

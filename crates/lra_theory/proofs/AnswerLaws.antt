@@ -1,4 +1,4 @@
--- The leaf of a clash answers it, and so does an operation that passes on the way.
+-- The leaf of a clash answers it, and so does an operation that overflows on the way.
 use Rattle.std.proofs.Common.{◌≡◌, ◌≤◌, List, map, length, sym, subst, arith}
 use Rattle.ordered_field.specs.Rational.{ℚ}
 use Rattle.ordered_field.specs.LowestTerms.{Ratio, InLowestTerms}

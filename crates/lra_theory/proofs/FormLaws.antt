@@ -160,7 +160,7 @@ module _ (rows : Rows) (good : IsGood rows) (made : List (Vec RowTerm)) (same : 
         term = found.0;
         of_form = found.1.0;
         operation = subst (λ t. IsOperation AtBound (rows.columns + stuck.row) t.var Product (whole t.coef) (whole (pos 1)) k) (sym found.1.1) (subst (λ m. IsOperation AtBound (m + stuck.row) stuck.term.var Product (whole stuck.term.coef) (whole (pos 1)) k) at stuck.operation);
-        passes = subst (λ t. limit < unsigned_abs t.coef) (sym found.1.1) stuck.passes;
+        overflows = subst (λ t. limit < unsigned_abs t.coef) (sym found.1.1) stuck.overflows;
       }
 
 -- ---- the vector of a column

@@ -8,7 +8,7 @@ use Rattle.clause_form.specs.declared.formulas.Formula.{Formula}
 use Rattle.clause_form.specs.declared.theory.Heard.TheVariants as heard
 use Rattle.clause_form.specs.Derivations.{HasAtom}
 use Rattle.clause_form.specs.Formulas.{CanTake, EachComparison, formula_of}
-use Rattle.clause_form.specs.Theories.{HearsLiteral, Relations, Seen}
+use Rattle.clause_form.specs.Theories.{HearsLiteral, Relations, TheoryView}
 use Rattle.clause_form.specs.WellFormed.{Below}
 use Rattle.lra_theory.specs.Examples.{HasTold}
 
@@ -40,7 +40,7 @@ below_free n (m ∷ ms) below (inl same) = let h = below.0 in omega (arith, h, s
 below_free n (m ∷ ms) below (inr has) = below_free n ms below.1 has
 
 module _ {S : Type 0} (R : Relations S) where
-  pub told_more : (n atoms : ℕ) (s t : Seen S) (l : Lit) → HasTold n atoms s → HearsLiteral R s l heard.Fine t → l.atom ≡ n → HasTold (n + 1) atoms t
+  pub told_more : (n atoms : ℕ) (s t : TheoryView S) (l : Lit) → HasTold n atoms s → HearsLiteral R s l heard.Fine t → l.atom ≡ n → HasTold (n + 1) atoms t
   told_more n atoms s t l has hears e =
       let answer = hears.at_work has.at_work in
       let took = answer.0 in

@@ -6,7 +6,7 @@ use Rattle.std.proofs.lemmas.List.{get_or-set_same, get_or-set_other, length-set
 use Rattle.std.proofs.Math.IntN.{*ℤ-zero, +ℤ_idr, +ℤ_idl, +ℤ_assoc}
 use Rattle.whole.specs.Numbers.{IsWithin, fma, whole}
 use Rattle.whole.specs.declared.answers.Stuck.{Stuck}
-use Rattle.whole.proofs.Passing.{fma_kept, fma_some, whole_kept}
+use Rattle.whole.proofs.Overflow.{fma_kept, fma_some, whole_kept}
 use Rattle.linear_form.specs.declared.lists.Term.{Term}
 use Rattle.linear_form.specs.Reduced.{IsReduced}
 use Rattle.linear_form.specs.Sums.{coef_at}

@@ -4,7 +4,7 @@ use Rattle.ordered_field.specs.Rational.{ℚ, whole}
 use Rattle.ordered_field.specs.Order.{◌<ℚ◌}
 use Rattle.ordered_field.specs.Delta.{DeltaValue, ◌<δ◌}
 use Rattle.ordered_field.specs.LowestTerms.{Ratio}
-use Rattle.whole.specs.Numbers.{IsWithin, gcd_of, lcm_of, passes}
+use Rattle.whole.specs.Numbers.{IsWithin, gcd_of, lcm_of, overflows}
 use Rattle.whole.specs.declared.answers.Op.{Op}
 use Rattle.whole.specs.declared.answers.Op.TheVariants.{Product, Sum}
 use Rattle.whole.specs.declared.answers.Pair.{Pair}
@@ -104,13 +104,13 @@ result_of Sum x y = x +ℤ y
 abbrev pub operation : Place → ℕ → ℕ → Op → ℤ → ℤ → Stuck
 operation place at by op x y = record { place = place; at = at; by = by; op = op; left = whole_pair x; right = whole_pair y }
 
--- it passes 128 bits
-pub record IsPassing (place : Place) (at by : ℕ) (op : Op) (x y : ℤ) (stuck : Stuck) : Type 0 where
+-- it overflows 128 bits
+pub record IsOverflow (place : Place) (at by : ℕ) (op : Op) (x y : ℤ) (stuck : Stuck) : Type 0 where
   pub is : stuck ≡ operation place at by op x y
-  pub passes : passes (result_of op x y) ≡ true
+  pub overflows : overflows (result_of op x y) ≡ true
 
-abbrev pub IsPassingProduct : Piece → ℕ → ℤ → ℤ → Stuck → Type 0
-IsPassingProduct p position x y stuck = IsPassing Multiplier p.lit.atom position Product x y stuck
+abbrev pub IsOverflowingProduct : Piece → ℕ → ℤ → ℤ → Stuck → Type 0
+IsOverflowingProduct p position x y stuck = IsOverflow Multiplier p.lit.atom position Product x y stuck
 
 -- q * den, or (l / gcd(l, q * den)) * (q * den) with the l of the pieces before, or p * (l / (q * den)) with the l of all
 pub record IsStuckMultiplier (pieces : List Piece) (stuck : Stuck) : Type 0 where
@@ -119,14 +119,14 @@ pub record IsStuckMultiplier (pieces : List Piece) (stuck : Stuck) : Type 0 wher
   pub behind : List Piece
   pub all : pieces ≡ front ++ piece ∷ behind
   pub operation :
-      IsPassingProduct piece (length front) piece.factor.den piece.den stuck
-      ⊎ IsPassingProduct piece (length front) (pos (common 1 front / gcd_of (common 1 front) (unit_of piece))) (pos (unit_of piece)) stuck
-      ⊎ IsPassingProduct piece (length front) piece.factor.num (pos (common 1 pieces / unit_of piece)) stuck
+      IsOverflowingProduct piece (length front) piece.factor.den piece.den stuck
+      ⊎ IsOverflowingProduct piece (length front) (pos (common 1 front / gcd_of (common 1 front) (unit_of piece))) (pos (unit_of piece)) stuck
+      ⊎ IsOverflowingProduct piece (length front) piece.factor.num (pos (common 1 pieces / unit_of piece)) stuck
 
 -- a step of a running sum: the product, or then the sum
 abbrev pub IsStuckStep : ℕ → ℕ → ℤ → ℤ → ℤ → Stuck → Type 0
 IsStuckStep at position sum mult number stuck =
-    IsPassing Column at position Product mult number stuck ⊎ IsPassing Column at position Sum sum (mult *ℤ number) stuck
+    IsOverflow Column at position Product mult number stuck ⊎ IsOverflow Column at position Sum sum (mult *ℤ number) stuck
 
 -- a step of the running sum of these numbers of the rows
 pub record IsStuckRunning (rows : Rows) (number : LitRow → ℤ) (at : ℕ) (parts : List Part) (stuck : Stuck) : Type 0 where
@@ -181,19 +181,19 @@ pub record IsSoundPiece (p : Piece) : Type 0 where
 abbrev pub HasSmallUnit : Piece → Type 0
 HasSmallUnit p = IsWithin (p.factor.den *ℤ p.den)
 
--- a product of the least common multiple of l and the piece's unit passes
+-- a product of the least common multiple of l and the piece's unit overflows
 abbrev pub IsStuckAfter : ℕ → Piece → ℕ → Stuck → Type 0
 IsStuckAfter l p position stuck =
-    IsPassingProduct p position p.factor.den p.den stuck
-    ⊎ IsPassingProduct p position (pos (l / gcd_of l (unit_of p))) (pos (unit_of p)) stuck
+    IsOverflowingProduct p position p.factor.den p.den stuck
+    ⊎ IsOverflowingProduct p position (pos (l / gcd_of l (unit_of p))) (pos (unit_of p)) stuck
 
--- p * (l / (q * den)) passes, with this l
+-- p * (l / (q * den)) overflows, with this l
 pub record IsStuckPart (l : ℕ) (pieces : List Piece) (stuck : Stuck) : Type 0 where
   pub front : List Piece
   pub piece : Piece
   pub behind : List Piece
   pub all : pieces ≡ front ++ piece ∷ behind
-  pub operation : IsPassingProduct piece (length front) piece.factor.num (pos (l / unit_of piece)) stuck
+  pub operation : IsOverflowingProduct piece (length front) piece.factor.num (pos (l / unit_of piece)) stuck
 
 -- each limit is that of a told literal, and counts
 abbrev pub AreOfTold : Rows → List Lit → List Weight → Type 0
@@ -214,7 +214,7 @@ pub record IsFarkas (rows : Rows) (told : List Lit) (ws : List Weight) : Type 0 
   pub cancels : (column : ℕ) → column < rows.columns → weighed_variables ws (at_column rows column) ≡ whole (pos 0)
   pub below_zero : weighed_numbers ws <δ record { real = whole (pos 0); inf = whole (pos 0) }
 
--- the parts are a contradiction of the literals told and a clash of the state, and no sum passes
+-- the parts are a contradiction of the literals told and a clash of the state, and no sum overflows
 pub record IsLeaf {F : Type 0} (value : F → ℚ) (s : State F) (parts : List Part) : Type 0 where
   pub few : length parts ≤ 2049
   pub contradiction : IsContradiction s.rows s.told parts

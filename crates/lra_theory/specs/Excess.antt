@@ -1,4 +1,4 @@
--- By how much a value passes a bound.
+-- By how much a value exceeds a bound.
 use Rattle.std.specs.Prelude.{◌≡◌, Bool, true, false}
 use Rattle.ordered_field.specs.Rational.{◌+ℚ◌, neg_ℚ}
 use Rattle.ordered_field.specs.Delta.{DeltaValue}
@@ -18,7 +18,7 @@ excess_over false at x = delta_difference at x
 abbrev pub limit_at : Bound → DeltaValue → Limit DeltaValue
 limit_at b at = record { var = b.var; upper = b.upper; at = at; tag = 0 }
 
--- d is how far x passes the bound's limit
+-- d is how far x exceeds the bound's limit
 pub record IsExcess (b : Bound) (x d : DeltaValue) : Type 0 where
   pub at : DeltaValue
   pub is_limit : IsLimitOf b 0 (limit_at b at)

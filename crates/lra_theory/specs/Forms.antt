@@ -40,4 +40,4 @@ pub record IsStuckCoefficient (limit : ℕ) (rows : Rows) (stuck : Stuck) : Type
   pub term : Term
   pub of_form : Contains form.terms term
   pub operation : IsOperation AtBound (rows.columns + number) term.column Product (whole term.coef) (whole (pos 1)) stuck
-  pub passes : limit < unsigned_abs term.coef
+  pub overflows : limit < unsigned_abs term.coef

@@ -7,7 +7,7 @@ use Rattle.clause_form.specs.declared.clauses.Clauses.{Clauses}
 use Rattle.clause_form.specs.declared.theory.Heard.{Heard}
 use Rattle.clause_form.specs.declared.theory.Heard.TheVariants as heard
 use Rattle.clause_form.specs.Derivations.{Rows, rows_of}
-use Rattle.clause_form.specs.Theories.{Rest, works, without_memory, stuck, Seen}
+use Rattle.clause_form.specs.Theories.{Rest, works, without_memory, stuck, TheoryView}
 use Rattle.simplex.specs.States.{corner, State as SimplexState}
 use Rattle.lra_theory.specs.declared.fault.LraFault.{LraFault}
 use Rattle.lra_theory.specs.declared.fault.LraFault.TheVariants as fault
@@ -39,7 +39,7 @@ abbrev pub state_of : {F : Type 0} → (F → ℚ) → Rows → List Lit → Sim
 state_of value rows told simplex = record { rows = rows; told = told; corner = corner value simplex }
 
 -- what a search sees of it
-abbrev pub seen : {F : Type 0} → (F → ℚ) → Standing F → Seen (State F)
+abbrev pub seen : {F : Type 0} → (F → ℚ) → Standing F → TheoryView (State F)
 seen value a = record {
   rows = a.rows;
   told = lits_of a.told a.refused;
@@ -99,7 +99,7 @@ IfStuck (fault.Stuck k) P = P k
 IfStuck fault.NoMemory P = Unit {0}
 
 -- a theory of these clauses to which nothing was told
-pub record IsFresh {F : Type 0} (limit : ℕ) (value : F → ℚ) (c : Clauses) (s : Seen (State F)) : Type 0 where
+pub record IsFresh {F : Type 0} (limit : ℕ) (value : F → ℚ) (c : Clauses) (s : TheoryView (State F)) : Type 0 where
   pub rows : s.rows ≡ rows_of c
   pub told : s.told ≡ []
   pub state : IsOpeningOf limit value c s.state

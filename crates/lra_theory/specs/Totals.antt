@@ -32,7 +32,7 @@ pub record AreAfterRow (rows : Rows) (b : Bound) (mult : ℤ) (old new : Sums) :
   pub columns : (column : ℕ) → fma (sum_at old.columns.items column) mult (signed b.upper b.den *ℤ coef_at column (terms_of rows b.var)) ≡ Some (sum_at new.columns.items column)
   pub bound : fma old.bound mult (signed b.upper b.num) ≡ Some new.bound
 
--- a step of the bound's row passes
+-- a step of the bound's row overflows
 abbrev pub IsStuckInRow : Rows → Bound → ℤ → ℕ → Sums → Stuck → Type 0
 IsStuckInRow rows b mult position sums stuck =
     ((column : ℕ) × ((column < rows.columns)
@@ -44,7 +44,7 @@ pub record AreAfterPart (rows : Rows) (p : Part) (old new : Sums) : Type 0 where
   pub columns : (column : ℕ) → column < rows.columns → fma (sum_at old.columns.items column) p.mult (number_in (row_coef column) (row_of rows p.lit)) ≡ Some (sum_at new.columns.items column)
   pub bound : fma old.bound p.mult (number_in (λ row. row.bound) (row_of rows p.lit)) ≡ Some new.bound
 
--- a step of the part passes
+-- a step of the part overflows
 abbrev pub IsStuckInPart : Rows → Part → ℕ → Sums → Stuck → Type 0
 IsStuckInPart rows p position sums stuck =
     ((column : ℕ) × ((column < rows.columns)

@@ -1,12 +1,12 @@
 //! A clash: the fractions of a conflict become the whole multipliers of a leaf, by their least common denominator.
 
 ghost use Rattle.std.specs.Prelude.{◌≡◌, ◌+◌, ◌<◌, ◌≤◌, ◌^◌, ℕ, ◌/◌, pos, ◌≤ℤ◌, ◌*ℤ◌, ◌⊎◌, List, map, length, All, unsigned_abs, true, IfOk, OnOk, IfErr, IfSome, OnSome, IfNone};
-ghost use Rattle.whole.specs.Numbers.{IsWithin, gcd_of, lcm_of, passes, whole};
+ghost use Rattle.whole.specs.Numbers.{IsWithin, gcd_of, lcm_of, overflows, whole};
 ghost use Rattle.whole.specs.declared.answers.Op.TheVariants.{Product};
 ghost use Rattle.whole.specs.declared.answers.Place.TheVariants.{Multiplier};
 ghost use Rattle.clause_form.specs.Derivations.{SumsFit};
 ghost use Rattle.simplex.specs.Shares.{AreShares, Weight};
-ghost use Rattle.lra_theory.specs.Clashes.{AreOfClash, AnswersClash, HasSmallUnit, IsFarkas, IsPassingProduct, IsSoundPiece, IsStuckAfter, IsStuckLeaf, IsStuckMultiplier, IsStuckPart, IsTold, common, operation, part_of, parts_of, piece_of, unit_of};
+ghost use Rattle.lra_theory.specs.Clashes.{AreOfClash, AnswersClash, HasSmallUnit, IsFarkas, IsOverflowingProduct, IsSoundPiece, IsStuckAfter, IsStuckLeaf, IsStuckMultiplier, IsStuckPart, IsTold, common, operation, part_of, parts_of, piece_of, unit_of};
 ghost use Rattle.lra_theory.specs.Soundness.{IsGood};
 ghost use Rattle.lra_theory.specs.Standings.{IfStuck, heard_of, lits_of};
 ghost use Rattle.lra_theory.specs.States.{State};
@@ -162,7 +162,7 @@ fn raised(least: i128, piece: Piece, position: u32) -> Result<i128, Stuck>
 {
     match unit(piece) {
         Some(unit) => raised_by(least, unit, piece, position),
-        None => Err(passing(piece, position, piece.factor.den, piece.den)),
+        None => Err(overflowing(piece, position, piece.factor.den, piece.den)),
     }
 }
 
@@ -175,12 +175,12 @@ fn raised_by(least: i128, unit: i128, piece: Piece, position: u32) -> Result<i12
     ensures exact { IfOk result (λ l. l ≡ pos (lcm_of (unsigned_abs least) (unsigned_abs unit))) }
     ensures within { IfOk result IsWithin }
     ensures some { IfOk result (λ l. pos 1 ≤ℤ l) }
-    ensures stuck { IfErr result (IsPassingProduct piece position
+    ensures stuck { IfErr result (IsOverflowingProduct piece position
         (pos (unsigned_abs least / gcd_of (unsigned_abs least) (unsigned_abs unit))) (pos (unsigned_abs unit))) }
 {
     match lcm(least, unit) {
         Some(multiple) => Ok(multiple),
-        None => Err(passing(
+        None => Err(overflowing(
             piece,
             position,
             quotient(least, common_divisor(least, unit)),
@@ -190,7 +190,7 @@ fn raised_by(least: i128, unit: i128, piece: Piece, position: u32) -> Result<i12
 }
 
 // The greatest common divisor of two numbers above 0.
-#[tactic(auto, using(whole::proofs::Passing::signed))]
+#[tactic(auto, using(whole::proofs::Overflow::signed))]
 fn common_divisor(left: i128, right: i128) -> i128
     requires left { IsWithin left }
     requires left_some { pos 1 ≤ℤ left }
@@ -203,7 +203,7 @@ fn common_divisor(left: i128, right: i128) -> i128
 }
 
 // The quotient of two numbers above 0, rounded down.
-#[tactic(auto, using(whole::proofs::Passing::signed))]
+#[tactic(auto, using(whole::proofs::Overflow::signed))]
 fn quotient(left: i128, right: i128) -> i128
     requires left { pos 1 ≤ℤ left }
     requires within { IsWithin left }
@@ -221,7 +221,7 @@ fn unit(piece: Piece) -> Option<i128>
     ensures within { IfSome result IsWithin }
     ensures some { IfSome result (λ unit. pos 1 ≤ℤ unit) }
     ensures kept { OnSome result (HasSmallUnit piece) }
-    ensures passes { IfNone result (passes (piece.factor.den *ℤ piece.den) ≡ true) }
+    ensures overflows { IfNone result (overflows (piece.factor.den *ℤ piece.den) ≡ true) }
 {
     product(piece.factor.den, piece.den)
 }
@@ -255,7 +255,7 @@ fn part(piece: Piece, position: u32, common: i128) -> Result<Part, Stuck>
     requires some { pos 1 ≤ℤ common }
     ensures exact { IfOk result (λ part. part ≡ part_of (unsigned_abs common) piece) }
     ensures mult { IfOk result (λ part. IsWithin part.mult) }
-    ensures stuck { IfErr result (IsPassingProduct piece position piece.factor.num (pos (unsigned_abs common / unit_of piece))) }
+    ensures stuck { IfErr result (IsOverflowingProduct piece position piece.factor.num (pos (unsigned_abs common / unit_of piece))) }
 {
     match unit(piece) {
         Some(unit) => times(piece, position, quotient(common, unit)),
@@ -269,19 +269,19 @@ fn times(piece: Piece, position: u32, count: i128) -> Result<Part, Stuck>
     requires count { IsWithin count }
     ensures exact { IfOk result (λ part. part ≡ record { lit = piece.lit; mult = piece.factor.num *ℤ count }) }
     ensures mult { IfOk result (λ part. IsWithin part.mult) }
-    ensures stuck { IfErr result (IsPassingProduct piece position piece.factor.num count) }
+    ensures stuck { IfErr result (IsOverflowingProduct piece position piece.factor.num count) }
 {
     match product(piece.factor.num, count) {
         Some(mult) => Ok(Part {
             lit: piece.lit,
             mult,
         }),
-        None => Err(passing(piece, position, piece.factor.num, count)),
+        None => Err(overflowing(piece, position, piece.factor.num, count)),
     }
 }
 
 // The product of two whole numbers, where it doesn't pass.
-#[tactic(auto, using(whole::proofs::Passing::signed))]
+#[tactic(auto, using(whole::proofs::Overflow::signed))]
 fn product(left: i128, right: i128) -> Option<i128>
     requires left { IsWithin left }
     requires right { IsWithin right }
@@ -291,7 +291,7 @@ fn product(left: i128, right: i128) -> Option<i128>
 }
 
 // The product of two whole numbers at the position of a piece.
-fn passing(piece: Piece, position: u32, left: i128, right: i128) -> Stuck
+fn overflowing(piece: Piece, position: u32, left: i128, right: i128) -> Stuck
     ensures { result ≡ operation Multiplier piece.lit.atom position Product left right }
 {
     Stuck {

@@ -9,7 +9,7 @@ ghost use Rattle.lra_theory.specs.Excess.{IsExcess, delta_difference, limit_at};
 use ordered_field::{Delta, OrderedField, Wide, one, zero};
 use simplex::Bound;
 
-/// By how much the value passes the bound, which it keeps where this isn't above zero.
+/// By how much the value exceeds the bound, which it keeps where this isn't above zero.
 pub(crate) fn excess<F: OrderedField>(bound: Bound, value: Delta<F>) -> Result<Delta<F>, Wide>
     requires { pos 1 ≤ℤ bound.den }
     ensures { IfOk result (λ d. IsExcess bound (delta_value F.value value) (delta_value F.value d)) }

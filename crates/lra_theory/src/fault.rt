@@ -7,7 +7,7 @@ use whole::{NoMemory, Stuck};
 /// What ends a theory, which then gives the same answer to each later call.
 #[derive(Clone, Copy, Debug, PartialEq, Eq, Error)]
 pub enum LraFault {
-    /// An operation that passes.
+    /// An operation that overflows.
     #[error("a number is too large")]
     Stuck(Stuck),
     #[error("out of memory")]

@@ -27,7 +27,7 @@ struct Sums {
     bound: i128,
 }
 
-/// Tries the running sums of a leaf. `Stuck` names a step that passes 128 bits.
+/// Tries the running sums of a leaf. `Stuck` names a step that overflows 128 bits.
 pub(crate) fn sums_fit(alloc: Global, rows: &Rows, parts: &[Part]) -> Result<(), LraFault>
     requires good { IsGood rows.now }
     requires mults { All (λ p. IsWithin p.mult) parts.now }
@@ -242,16 +242,16 @@ fn stepped(sum: i128, mult: i128, number: i128, at: u32, position: u32) -> Resul
 {
     match checked_fma(sum, mult, number) {
         Some(next) => Ok(next),
-        None => Err(passing(sum, mult, number, at, position)),
+        None => Err(overflowing(sum, mult, number, at, position)),
     }
 }
 
-// The operation of a step that passes: the product, or else the sum.
-fn passing(sum: i128, mult: i128, number: i128, at: u32, position: u32) -> Stuck
+// The operation of a step that overflows: the product, or else the sum.
+fn overflowing(sum: i128, mult: i128, number: i128, at: u32, position: u32) -> Stuck
     requires sum { IsWithin sum }
     requires mult { IsWithin mult }
     requires number { IsWithin number }
-    requires passes { fma sum mult number ≡ None }
+    requires overflows { fma sum mult number ≡ None }
     ensures { IsStuckStep at position sum mult number result }
 {
     match checked_fma(0, mult, number) {

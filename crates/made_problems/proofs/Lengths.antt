@@ -5,7 +5,7 @@ use Rattle.std.specs.Fmt.{decimal}
 use Rattle.std.proofs.lemmas.Fmt.{length-decimal-le}
 use Rattle.condition_syntax.specs.declared.expressions.ETerm.{ETerm}
 use Rattle.condition_syntax.specs.Trees.{Condition}
-use Rattle.condition_syntax.specs.Printing.{denominator_text, number_text, name_text, is_unit, is_negative, unsigned_text, first_text, later_text, expr_text, condition_text}
+use Rattle.condition_syntax.specs.CanonicalText.{denominator_text, number_text, name_text, is_unit, is_negative, unsigned_text, first_text, later_text, expr_text, condition_text}
 use Rattle.ctrl_syntax.specs.declared.syntax.StateLine.{StateLine}
 use Rattle.ctrl_syntax.specs.declared.syntax.SetLine.{SetLine}
 use Rattle.ctrl_syntax.specs.Sections.{Rule, Sections}

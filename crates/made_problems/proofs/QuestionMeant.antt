@@ -20,8 +20,8 @@ use Rattle.ctrl_types.specs.declared.controllers.State.{State}
 use Rattle.ctrl_types.proofs.DenominatorLaws.{least_over}
 use Rattle.question_syntax.specs.Sections.{Sections, Wanted, SameButLines, wanted_at}
 use Rattle.question_text.specs.Conditions.{comparison}
-use Rattle.question_text.specs.Naming.{count_named, step_in, flow_or_all, count_of, of_named, of_written, each_found, lin_meant}
-use Rattle.question_text.specs.Resolving.{path, wanted, sayings, buffer_numbers, Statement, statements, kind_of, names_kind, unknown_sides, mixed_sides, passes_limit, judged, IsUnbroken, SeenQuestion, meant, Resolves}
+use Rattle.question_text.specs.NamedValues.{count_named, step_in, flow_or_all, count_of, of_named, of_written, each_found, lin_meant}
+use Rattle.question_text.specs.StatementRules.{path, wanted, sayings, buffer_numbers, Statement, statements, kind_of, names_kind, unknown_sides, mixed_sides, exceeds_limit, judged, IsUnbroken, SeenQuestion, meant, Resolves}
 use Rattle.question_text.specs.declared.conditions.Of.TheVariants.{One, S}
 use Rattle.question_text.specs.declared.conditions.QLin.{QLin}
 use Rattle.ctrl_gen.specs.Problems.{Problem, over, pair_if, serves_at_least, setting_of, question_of}
@@ -102,12 +102,12 @@ module _ (c : Controller) (scale : IsScale (unsigned_abs c.den)) (p : Problem) (
   }
 
   path_judged : (line : ℕ) (ns before : List Num) → All IsEntire ns → All IsEntire before → judged c (setting_of p steps) (record { says = path ns line; before = before }) ≡ Ok tt
-  unfolding judged passes_limit
+  unfolding judged exceeds_limit
   path_judged line ns before here earlier = let e = scale_within (unsigned_abs c.den) (before ++ ns) scale (All-append IsEntire before ns earlier here) in rw e refl
 
   require_judged : (line : ℕ) (before : List Num) → All IsEntire before
       → judged c (setting_of p steps) (record { says = wanted (record { cond = serves_at_least steps p.least; line = line }); before = before }) ≡ Ok tt
-  unfolding judged passes_limit
+  unfolding judged exceeds_limit
   require_judged line before earlier =
       let least_to = is.least_to in
       let last_is = step_known (setting_of p steps) steps (omega arith) in

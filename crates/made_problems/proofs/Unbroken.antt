@@ -13,8 +13,8 @@ use Rattle.ctrl_syntax.specs.declared.syntax.StateLine.{StateLine}
 use Rattle.ctrl_syntax.specs.declared.syntax.SetLine.{SetLine}
 use Rattle.ctrl_syntax.specs.Sections.{Rule, Sections}
 use Rattle.ctrl_types.specs.Names.{has_name, is_among, is_reserved, state_named, signal_named, source_named, source_of, has_unknown, kind_of, names_kind, kind_named, mixes_sides, mixes_set, mixes_bound}
-use Rattle.ctrl_types.specs.Statements.{Saying, state as state_says, rule as rule_says, assignment, window, state_sayings, set_sayings, rule_sayings, sayings, numbers, Statement, placed, statements, unknown_sides, mixed_sides, is_unfit, is_above, is_empty, ends_otherwise, sets_name, takes_name, names_none, mixes_kinds, turns_bounds, sets_again, misplaces_otherwise, delays_unfit, counts, passes_limit, IsUnbroken}
-use Rattle.ctrl_types.proofs.Agreement.{judged}
+use Rattle.ctrl_types.specs.Statements.{LineContent, state as state_says, rule as rule_says, assignment, window, state_sayings, set_sayings, rule_sayings, sayings, numbers, Statement, placed, statements, unknown_sides, mixed_sides, is_unfit, is_above, is_empty, ends_otherwise, sets_name, takes_name, names_none, mixes_kinds, turns_bounds, sets_again, misplaces_otherwise, delays_unfit, counts, exceeds_limit, IsUnbroken}
+use Rattle.ctrl_types.proofs.EndAlike.{judged}
 use Rattle.ctrl_types.proofs.FirstLaws.{unbroken}
 use Rattle.ctrl_gen.specs.Problems.{over, alone, name_term, sum_of, state_name}
 use Rattle.made_problems.proofs.Numbered.{Numbered, none, next}
@@ -23,7 +23,7 @@ use Rattle.made_problems.proofs.Denominators.{IsSmall, small, common_within}
 
 -- ---- what a line says breaks no rule
 
-pub record IsFine (states : List StateLine) (x : Saying) : Type 0 where
+pub record IsFine (states : List StateLine) (x : LineContent) : Type 0 where
   pub name_free : takes_name x ≡ false
   pub known : names_none states x ≡ false
   pub one_kind : mixes_kinds states x ≡ false
@@ -35,12 +35,12 @@ pub record IsFine (states : List StateLine) (x : Saying) : Type 0 where
   pub each_small : All IsSmall (numbers x)
 
 one_passed : (states : List StateLine) (x : Statement) → IsFine states x.says → All IsSmall x.before → judged states x ≡ Ok tt
-unfolding passes_limit
+unfolding exceeds_limit
 one_passed states x fine small =
     let within = common_within (x.before ++ numbers x.says) (All-append IsSmall x.before (numbers x.says) small fine.each_small) in
     rw (fine.name_free, fine.known, fine.one_kind, fine.in_order, fine.once, fine.ends, fine.fits, within, fine.amounts) refl
 
-all_passed : (states : List StateLine) (earlier : List Num) (xs : List Saying) → All IsSmall earlier → All (IsFine states) xs → first (judged states) (placed earlier xs) ≡ Ok tt
+all_passed : (states : List StateLine) (earlier : List Num) (xs : List LineContent) → All IsSmall earlier → All (IsFine states) xs → first (judged states) (placed earlier xs) ≡ Ok tt
 all_passed states earlier [] small fine = refl
 all_passed states earlier (x ∷ xs) small fine =
     let here = All-head (IsFine states) x xs fine in
@@ -279,8 +279,8 @@ pub drawn_unbroken : (s : Sections) → AreSections s → IsUnbroken s
 unfolding sayings statements
 drawn_unbroken s (sections {states} {rules} line few states_are count_to rules_are) =
     let knows = fits few states_are in
-    let Fine : Saying → Type 0 = IsFine states in
-    let at_window : Saying = window rules (sum_of (name_term (over 1 1) (alone (state_name 1)) ∷ [])) line in
+    let Fine : LineContent → Type 0 = IsFine states in
+    let at_window : LineContent = window rules (sum_of (name_term (over 1 1) (alone (state_name 1)) ∷ [])) line in
     let all : All Fine (sayings s) =
     All-append Fine (state_sayings [] states) (rule_sayings rules ++ at_window ∷ []) knows.states_fine
     (All-append Fine (rule_sayings rules) (at_window ∷ []) (rules_fine states knows rules_are)

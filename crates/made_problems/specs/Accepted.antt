@@ -4,7 +4,7 @@ use Rattle.ctrl_syntax.specs.Grammar.{IsText}
 use Rattle.ctrl_syntax.specs.Sections.{Sections}
 use Rattle.ctrl_types.specs.Statements.{IsUnbroken}
 use Rattle.ctrl_types.specs.declared.controllers.Controller.{Controller}
-use Rattle.question_text.specs.Resolving.{SeenQuestion}
+use Rattle.question_text.specs.StatementRules.{SeenQuestion}
 use Rattle.question_text.specs.Texts.{IsTextOf}
 
 -- the bytes spell a controller, none of whose statements breaks a rule

@@ -59,7 +59,7 @@ sum_parts_are n m p q l left right least =
     over_one_least n m l (subst (λ r. IsCommonDenominator (over_one n) r l) (lowest_whole q m right) (subst (λ r. IsCommonDenominator r q l) (lowest_whole p n left) least))
 
 pub whole-sum_kept : (limit : ℕ) (n m : ℤ) → 1 ≤ limit → unsigned_abs n ≤ limit → unsigned_abs m ≤ limit → unsigned_abs (n +ℤ m) ≤ limit → SumIsWide limit (whole n) (whole m) → ⊥
-whole-sum_kept limit n m one first second sum wide = by_cause wide.passes
+whole-sum_kept limit n m one first second sum wide = by_cause wide.overflows
   where
     over_is : wide.over ≡ 1
     over_is = sum_parts_are n m wide.left wide.right wide.over wide.left_lowest wide.right_lowest wide.least
@@ -89,11 +89,11 @@ whole-sum_wide limit n m more = record {
   left_lowest = whole-lowest n;
   right_lowest = whole-lowest m;
   least = least_over_one n m;
-  passes = inr (inr (inr (subst (λ k. limit < unsigned_abs k) (ap (λ k. k +ℤ m) (by_one n) ∙ ap (λ k. n *ℤ pos 1 +ℤ k) (by_one m)) more)));
+  overflows = inr (inr (inr (subst (λ k. limit < unsigned_abs k) (ap (λ k. k +ℤ m) (by_one n) ∙ ap (λ k. n *ℤ pos 1 +ℤ k) (by_one m)) more)));
 }
 
 pub whole-kept : (limit : ℕ) (n : ℤ) → 1 ≤ limit → unsigned_abs n ≤ limit → Exceeds limit (whole n) → ⊥
-whole-kept limit n one size wide = by_cause wide.passes
+whole-kept limit n one size wide = by_cause wide.overflows
   where
     pair_is : wide.pair ≡ over_one n
     pair_is = lowest_whole wide.pair n wide.lowest
@@ -103,7 +103,7 @@ whole-kept limit n one size wide = by_cause wide.passes
     by_cause (inr more) = absurd (omega (arith, ap (λ p. p.den) pair_is))
 
 pub whole-wide : (limit : ℕ) (n : ℤ) → limit < unsigned_abs n → Exceeds limit (whole n)
-whole-wide limit n more = record { pair = over_one n; lowest = whole-lowest n; passes = inl more }
+whole-wide limit n more = record { pair = over_one n; lowest = whole-lowest n; overflows = inl more }
 
 -- ---- comparing
 

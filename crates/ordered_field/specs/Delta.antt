@@ -43,10 +43,10 @@ infix 4 ◌<δ◌
 abbrev pub ◌<δ◌ : DeltaValue → DeltaValue → Type 0
 x <δ y = delta_at_most y x ≡ false
 
--- the sum of one of the two parts passes the limit
+-- the sum of one of the two parts exceeds the limit
 abbrev pub DeltaSumIsWide : ℕ → DeltaValue → DeltaValue → Type 0
 DeltaSumIsWide limit x y = SumIsWide limit x.real y.real ⊎ SumIsWide limit x.inf y.inf
 
--- the product of one of the two parts passes the limit
+-- the product of one of the two parts exceeds the limit
 abbrev pub DeltaScaleIsWide : ℕ → ℚ → DeltaValue → Type 0
 DeltaScaleIsWide limit k x = Exceeds limit (k *ℚ x.real) ⊎ Exceeds limit (k *ℚ x.inf)

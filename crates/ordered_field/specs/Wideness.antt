@@ -12,9 +12,9 @@ pub record IsWithin (limit : ℕ) (p : Ratio) : Type 0 where
 pub record Exceeds (limit : ℕ) (x : ℚ) : Type 0 where
   pub pair : Ratio
   pub lowest : InLowestTerms pair x
-  pub passes : (limit < unsigned_abs pair.num) ⊎ (limit < pair.den)
+  pub overflows : (limit < unsigned_abs pair.num) ⊎ (limit < pair.den)
 
--- what passes the limit when two pairs are added over their common denominator l: l itself, one of the two
+-- what exceeds the limit when two pairs are added over their common denominator l: l itself, one of the two
 -- numerators brought to l, or their sum
 abbrev pub SumExceeds : ℕ → Ratio → Ratio → ℕ → Type 0
 SumExceeds limit p q l =
@@ -23,7 +23,7 @@ SumExceeds limit p q l =
     ⊎ (limit < unsigned_abs (numerator_over l q))
     ⊎ (limit < unsigned_abs (numerator_over l p +ℤ numerator_over l q))
 
--- x + y over the least common denominator passes the limit
+-- x + y over the least common denominator exceeds the limit
 pub record SumIsWide (limit : ℕ) (x y : ℚ) : Type 0 where
   pub left : Ratio
   pub right : Ratio
@@ -31,14 +31,14 @@ pub record SumIsWide (limit : ℕ) (x y : ℚ) : Type 0 where
   pub left_lowest : InLowestTerms left x
   pub right_lowest : InLowestTerms right y
   pub least : IsCommonDenominator left right over
-  pub passes : SumExceeds limit left right over
+  pub overflows : SumExceeds limit left right over
 
--- x + k * y passes the limit: the product, or then the sum
+-- x + k * y exceeds the limit: the product, or then the sum
 abbrev pub FmaIsWide : ℕ → ℚ → ℚ → ℚ → Type 0
 FmaIsWide limit x k y = Exceeds limit (k *ℚ y) ⊎ SumIsWide limit x (k *ℚ y)
 
--- the quotient of x by y passes the limit
+-- the quotient of x by y exceeds the limit
 pub record QuotientExceeds (limit : ℕ) (x y : ℚ) : Type 0 where
   pub quotient : ℚ
   pub divides : quotient *ℚ y ≡ x
-  pub passes : Exceeds limit quotient
+  pub overflows : Exceeds limit quotient

@@ -2,7 +2,7 @@
 //!
 //! A type that implements [`OrderedField`] holds rational numbers whose numerator and denominator, in lowest
 //! terms, are at most `LIMIT` in size. Every operation is exact, or refuses with [`Wide`] exactly where the
-//! quantity that its contract names passes `LIMIT`. Equality and order never refuse.
+//! quantity that its contract names exceeds `LIMIT`. Equality and order never refuse.
 
 ghost use Rattle.std.specs.Prelude.{◌≡◌, ℕ, ◌<◌, ◌≤◌, ◌^◌, ◌↔◌, ℤ, pos, negsuc, unsigned_abs, IfOk, OnOk, OnErr, IsTrue};
 ghost use Rattle.std.specs.Ordering.{MatchOrdering};
@@ -14,7 +14,7 @@ ghost use Rattle.ordered_field.specs.Wideness.{IsWithin, Exceeds, SumIsWide, Fma
 
 use std::cmp::Ordering;
 
-/// A result, or a quantity on the way to it that the operation names, passes the field's limit.
+/// A result, or a quantity on the way to it that the operation names, exceeds the field's limit.
 #[derive(Clone, Copy, PartialEq, Eq, Debug, Drop)]
 pub struct Wide;
 

@@ -1,9 +1,9 @@
 -- What the first finding of an examination says of the rules.
 use Rattle.std.proofs.Common.{◌≡◌, ◌∙◌, ap, refl, sym, subst, ℕ, zero, suc, List, [], ◌+◌, ◌<◌, ◌≤◌, Bool, true, false, ◌⊎◌, inl, inr, Result, Ok, Err, ◌∷◌, ◌++◌, get_or, length, arith}
-use Rattle.std.specs.Prelude.{All, flat_map}
+use Rattle.std.specs.Prelude.{All, IfErr, flat_map}
 use Rattle.std.proofs.lemmas.List.Elements.{All-append, All-from_get_or, All-get_or, All-head, All-map, All-nil, All-push, All-tail, All-weaker}
 use Rattle.whole.specs.declared.answers.Stuck.{Stuck}
-use Rattle.weighing.specs.First.{IsFirst, below, first}
+use Rattle.weighing.specs.First.{IsFirst, and_then, below, first}
 use Rattle.weighing.specs.Claim.{outcome}
 use Rattle.weighing.proofs.Claims.{outcome_answers}
 use Rattle.weighing.proofs.Events.{all_passed, each_passed, first-flat_map, first-map, first_is, first_is_first, passed_below}
@@ -11,8 +11,8 @@ use Rattle.run_rows.specs.Runs.{flow_count}
 use Rattle.run_rows.specs.declared.rows.Run.{Run}
 use Rattle.path_server.specs.Claims.{claim_of}
 use Rattle.path_server.specs.Limits.{IsPath}
-use Rattle.path_server.specs.Rules.{Admitted, RuleHolds}
-use Rattle.path_server.specs.Places.{Finds, HoldsAt, IsFirstBroken, IsFirstBrokenOf, IsFirstWide, IsFirstWideOf, IsStuckAt, NothingPasses, NothingPassesAt, Place, admission, answer, at_place, examined, number, places, places_of_row, places_of_rule, rules, stop_at}
+use Rattle.path_server.specs.Rules.{Admitted}
+use Rattle.path_server.specs.Places.{Finds, HoldsAt, IsFirstBroken, IsFirstBrokenOf, IsFirstWide, IsFirstWideOf, IsStuckAt, NothingOverflows, NothingOverflowsAt, RulePlace, admission, answer, at_place, examined, number, places, places_of_row, places_of_rule, rules, stop_at}
 use Rattle.path_server.specs.Servers.{server_of}
 use Rattle.path_server.specs.declared.settings.Path.{Path}
 use Rattle.path_server.specs.declared.admission.Admit.{Admit}
@@ -22,42 +22,42 @@ use Rattle.path_server.specs.declared.path_rules.PathRule.TheVariants.{Start, Gr
 use Rattle.path_server.proofs.RuleLaws.{claims_mean_rules}
 
 -- what stopping at a place says of the outcome there
-passed_outcome : (place : Place) (o : Result Bool Stuck) → stop_at place o ≡ Ok tt → o ≡ Ok true
+passed_outcome : (place : RulePlace) (o : Result Bool Stuck) → stop_at place o ≡ Ok tt → o ≡ Ok true
 passed_outcome place (Ok true) is = refl
 passed_outcome place (Ok false) is = absurd (cc)
 passed_outcome place (Err stuck) is = absurd (cc)
 
-broken_outcome : (place : Place) (o : Result Bool Stuck) (rule i f : ℕ) → stop_at place o ≡ Err (Broken rule i f)
+broken_outcome : (place : RulePlace) (o : Result Bool Stuck) (rule i f : ℕ) → stop_at place o ≡ Err (Broken rule i f)
     → (o ≡ Ok false) × (number place.rule ≡ rule) × (place.row ≡ i) × (place.flow ≡ f)
 broken_outcome place (Ok true) rule i f is = absurd (cc)
 broken_outcome place (Ok false) rule i f is = (refl, cc, cc, cc)
 broken_outcome place (Err stuck) rule i f is = absurd (cc)
 
-wide_outcome : (place : Place) (o : Result Bool Stuck) (stuck : Stuck) → stop_at place o ≡ Err (Wide stuck) → o ≡ Err stuck
+wide_outcome : (place : RulePlace) (o : Result Bool Stuck) (stuck : Stuck) → stop_at place o ≡ Err (Wide stuck) → o ≡ Err stuck
 wide_outcome place (Ok true) stuck is = absurd (cc)
 wide_outcome place (Ok false) stuck is = absurd (cc)
 wide_outcome place (Err passing) stuck is = cc
 
-never_yes : (place : Place) (o : Result Bool Stuck) → stop_at place o ≡ Err Yes → ⊥
+never_yes : (place : RulePlace) (o : Result Bool Stuck) → stop_at place o ≡ Err Yes → ⊥
 never_yes place (Ok true) is = cc
 never_yes place (Ok false) is = cc
 never_yes place (Err stuck) is = cc
 
 -- ---- what a weighing says of its place
 
-abbrev weighed_at : Path → Run → Place → Result Bool Stuck
+abbrev weighed_at : Path → Run → RulePlace → Result Bool Stuck
 weighed_at p r place = outcome place.row (claim_of p r place.rule place.row place.flow)
 
--- what comes of weighing a place's comparisons: its rule holds, or is broken, or a weighing passes
-pub record WeighsAt (p : Path) (r : Run) (place : Place) : Type 0 where
-  pub holds : weighed_at p r place ≡ Ok true → NothingPassesAt p r place × HoldsAt p r place
-  pub holding : NothingPassesAt p r place → HoldsAt p r place → weighed_at p r place ≡ Ok true
-  pub fails : weighed_at p r place ≡ Ok false → NothingPassesAt p r place × (HoldsAt p r place → ⊥)
-  pub failing : NothingPassesAt p r place → (HoldsAt p r place → ⊥) → weighed_at p r place ≡ Ok false
+-- what comes of weighing a place's comparisons: its rule holds, or is broken, or a weighing overflows
+pub record WeighsAt (p : Path) (r : Run) (place : RulePlace) : Type 0 where
+  pub holds : weighed_at p r place ≡ Ok true → NothingOverflowsAt p r place × HoldsAt p r place
+  pub holding : NothingOverflowsAt p r place → HoldsAt p r place → weighed_at p r place ≡ Ok true
+  pub fails : weighed_at p r place ≡ Ok false → NothingOverflowsAt p r place × (HoldsAt p r place → ⊥)
+  pub failing : NothingOverflowsAt p r place → (HoldsAt p r place → ⊥) → weighed_at p r place ≡ Ok false
   pub sticks : (stuck : Stuck) → weighed_at p r place ≡ Err stuck → IsStuckAt p r place stuck
   pub sticking : (stuck : Stuck) → IsStuckAt p r place stuck → weighed_at p r place ≡ Err stuck
 
-pub weighs_at : (p : Path) (r : Run) → IsPath p → (place : Place) → WeighsAt p r place
+pub weighs_at : (p : Path) (r : Run) → IsPath p → (place : RulePlace) → WeighsAt p r place
 weighs_at p r path place =
     let says = outcome_answers place.row (claim_of p r place.rule place.row place.flow) in
     let means = claims_mean_rules (server_of p) r place.rule place.row place.flow path in
@@ -70,15 +70,15 @@ weighs_at p r path place =
       sticking = λ stuck. (says.stuck stuck).1;
     }
 
--- a place that is passed keeps its rule, and nothing passes there
-kept_at : (p : Path) (r : Run) → IsPath p → (place : Place) → examined p r place ≡ Ok tt → NothingPassesAt p r place × HoldsAt p r place
+-- a place that is passed keeps its rule, and nothing overflows there
+kept_at : (p : Path) (r : Run) → IsPath p → (place : RulePlace) → examined p r place ≡ Ok tt → NothingOverflowsAt p r place × HoldsAt p r place
 unfolding examined
 kept_at p r path place is = (weighs_at p r path place).holds (passed_outcome place (weighed_at p r place) is)
 
-holds_at : (p : Path) (r : Run) → IsPath p → (place : Place) → examined p r place ≡ Ok tt → HoldsAt p r place
+holds_at : (p : Path) (r : Run) → IsPath p → (place : RulePlace) → examined p r place ≡ Ok tt → HoldsAt p r place
 holds_at p r path place is = (kept_at p r path place is).1
 
-passes_at : (p : Path) (r : Run) → IsPath p → (place : Place) → NothingPassesAt p r place → HoldsAt p r place → examined p r place ≡ Ok tt
+passes_at : (p : Path) (r : Run) → IsPath p → (place : RulePlace) → NothingOverflowsAt p r place → HoldsAt p r place → examined p r place ≡ Ok tt
 unfolding examined
 passes_at p r path place small holds = ap (stop_at place) ((weighs_at p r path place).holding small holds)
 
@@ -107,6 +107,19 @@ number_below Buffer = omega arith
 number_below Loss = omega arith
 number_below WasteRate = omega arith
 
+-- what stops the rules at places is a broken rule or a stuck weighing
+pub stops_law : (p : Path) (r : Run) (ps : List RulePlace) → IfErr (first (examined p r) ps) (λ stop. stop ≡ Yes → ⊥)
+unfolding examined
+stops_law p r [] = tt
+stops_law p r (x ∷ ps) =
+    by x (outcome x.row (claim_of p r x.rule x.row x.flow)) (first (examined p r) ps) (stops_law p r ps)
+  where
+    by : (x : RulePlace) (o : Result Bool Stuck) (u : Result (Unit {0}) Admit) → IfErr u (λ stop. stop ≡ Yes → ⊥)
+        → IfErr (and_then (stop_at x o) u) (λ stop. stop ≡ Yes → ⊥)
+    by x (Ok true) u rest = rest
+    by x (Ok false) u rest = λ is. absurd (cc)
+    by x (Err stuck) u rest = λ is. absurd (cc)
+
 -- where nothing is found on a row, every place of the row is passed
 every_place_of_row : (p : Path) (r : Run) (i : ℕ) → first (examined p r) (places_of_row r i) ≡ Ok tt → (rule : PathRule) (f : ℕ)
     → f ≤ flow_count r 0 → examined p r (at_place i rule f) ≡ Ok tt
@@ -131,24 +144,24 @@ rows_admit p r path none = λ rule i f inside among.
 
 -- ---- what is found at places
 
-weighed_before : (p : Path) (r : Run) → IsPath p → (ps : List Place) → All (λ place. examined p r place ≡ Ok tt) ps → All (NothingPassesAt p r) ps
+weighed_before : (p : Path) (r : Run) → IsPath p → (ps : List RulePlace) → All (λ place. examined p r place ≡ Ok tt) ps → All (NothingOverflowsAt p r) ps
 weighed_before p r path ps passed =
-    All-weaker (λ place. examined p r place ≡ Ok tt) (NothingPassesAt p r) (λ place is. (kept_at p r path place is).0) ps passed
+    All-weaker (λ place. examined p r place ≡ Ok tt) (NothingOverflowsAt p r) (λ place is. (kept_at p r path place is).0) ps passed
 
-held_before : (p : Path) (r : Run) → IsPath p → (ps : List Place) → All (λ place. examined p r place ≡ Ok tt) ps → All (HoldsAt p r) ps
+held_before : (p : Path) (r : Run) → IsPath p → (ps : List RulePlace) → All (λ place. examined p r place ≡ Ok tt) ps → All (HoldsAt p r) ps
 held_before p r path ps passed = All-weaker (λ place. examined p r place ≡ Ok tt) (HoldsAt p r) (holds_at p r path) ps passed
 
-passed_before : (p : Path) (r : Run) → IsPath p → (ps : List Place) → All (NothingPassesAt p r) ps → All (HoldsAt p r) ps
+passed_before : (p : Path) (r : Run) → IsPath p → (ps : List RulePlace) → All (NothingOverflowsAt p r) ps → All (HoldsAt p r) ps
     → All (λ place. examined p r place ≡ Ok tt) ps
 passed_before p r path ps small held = λ k d inside. passes_at p r path (get_or ps k d) (small k d inside) (held k d inside)
 
-broken_of : (p : Path) (r : Run) (ps : List Place) (rule i f : ℕ) → IsPath p → IsFirst (examined p r) ps (Broken rule i f)
+broken_of : (p : Path) (r : Run) (ps : List RulePlace) (rule i f : ℕ) → IsPath p → IsFirst (examined p r) ps (Broken rule i f)
     → IsFirstBrokenOf p r ps rule i f
 unfolding examined
 broken_of p r ps rule i f path one =
     let (fails, named, row, flow) = broken_outcome one.stop (weighed_at p r one.stop) rule i f one.answer in
     let same : one.stop ≡ at_place i one.stop.rule f = same_place one.stop i f row flow in
-    let here = subst (λ place. NothingPassesAt p r place × (HoldsAt p r place → ⊥)) same ((weighs_at p r path one.stop).fails fails) in
+    let here = subst (λ place. NothingOverflowsAt p r place × (HoldsAt p r place → ⊥)) same ((weighs_at p r path one.stop).fails fails) in
     record {
       before = one.before;
       broken = one.stop.rule;
@@ -161,10 +174,10 @@ broken_of p r ps rule i f path one =
       breaks = here.1;
     }
   where
-    same_place : (place : Place) (i f : ℕ) → place.row ≡ i → place.flow ≡ f → place ≡ at_place i place.rule f
+    same_place : (place : RulePlace) (i f : ℕ) → place.row ≡ i → place.flow ≡ f → place ≡ at_place i place.rule f
     same_place place i f row flow = ap (λ n. at_place n place.rule place.flow) row ∙ ap (at_place i place.rule) flow
 
-of_broken : (p : Path) (r : Run) (ps : List Place) (rule i f : ℕ) → IsPath p → IsFirstBrokenOf p r ps rule i f
+of_broken : (p : Path) (r : Run) (ps : List RulePlace) (rule i f : ℕ) → IsPath p → IsFirstBrokenOf p r ps rule i f
     → IsFirst (examined p r) ps (Broken rule i f)
 unfolding examined
 of_broken p r ps rule i f path one = record {
@@ -177,7 +190,7 @@ of_broken p r ps rule i f path one = record {
       ∙ ap (λ n. let t : Result (Unit {0}) Admit = Err (Broken n i f) in t) one.numbered;
 }
 
-wide_of : (p : Path) (r : Run) (ps : List Place) (stuck : Stuck) → IsPath p → IsFirst (examined p r) ps (Wide stuck) → IsFirstWideOf p r ps stuck
+wide_of : (p : Path) (r : Run) (ps : List RulePlace) (stuck : Stuck) → IsPath p → IsFirst (examined p r) ps (Wide stuck) → IsFirstWideOf p r ps stuck
 unfolding examined
 wide_of p r ps stuck path one = record {
   before = one.before;
@@ -186,10 +199,10 @@ wide_of p r ps stuck path one = record {
   parts = one.parts;
   weighed = weighed_before p r path one.before one.passed;
   held = held_before p r path one.before one.passed;
-  passes = (weighs_at p r path one.stop).sticks stuck (wide_outcome one.stop (weighed_at p r one.stop) stuck one.answer);
+  overflows = (weighs_at p r path one.stop).sticks stuck (wide_outcome one.stop (weighed_at p r one.stop) stuck one.answer);
 }
 
-of_wide : (p : Path) (r : Run) (ps : List Place) (stuck : Stuck) → IsPath p → IsFirstWideOf p r ps stuck → IsFirst (examined p r) ps (Wide stuck)
+of_wide : (p : Path) (r : Run) (ps : List RulePlace) (stuck : Stuck) → IsPath p → IsFirstWideOf p r ps stuck → IsFirst (examined p r) ps (Wide stuck)
 unfolding examined
 of_wide p r ps stuck path one = record {
   before = one.before;
@@ -197,14 +210,14 @@ of_wide p r ps stuck path one = record {
   after = one.after;
   parts = one.parts;
   passed = passed_before p r path one.before one.weighed one.held;
-  answer = ap (stop_at one.place) ((weighs_at p r path one.place).sticking stuck one.passes);
+  answer = ap (stop_at one.place) ((weighs_at p r path one.place).sticking stuck one.overflows);
 }
 
-none_yes : (p : Path) (r : Run) (ps : List Place) → IsFirst (examined p r) ps Yes → ⊥
+none_yes : (p : Path) (r : Run) (ps : List RulePlace) → IsFirst (examined p r) ps Yes → ⊥
 unfolding examined
 none_yes p r ps one = never_yes one.stop (weighed_at p r one.stop) one.answer
 
-pub finds_law : (p : Path) (r : Run) (ps : List Place) → IsPath p → Finds p r ps (first (examined p r) ps)
+pub finds_law : (p : Path) (r : Run) (ps : List RulePlace) → IsPath p → Finds p r ps (first (examined p r) ps)
 finds_law p r ps path = record {
   none = (
     λ is. (let passed = each_passed (examined p r) ps is in (weighed_before p r path ps passed, held_before p r path ps passed)),
@@ -277,7 +290,7 @@ unfolding admission
 admitted_law p r path answered =
     rows_admit p r path (rows_of_places p r (found_none (first (examined p r) (places r)) (finds_all p r path).never_yes answered))
 
-pub weighed_law : (p : Path) (r : Run) → IsPath p → admission p r ≡ Yes → NothingPasses p r
+pub weighed_law : (p : Path) (r : Run) → IsPath p → admission p r ≡ Yes → NothingOverflows p r
 unfolding admission
 weighed_law p r path answered =
     let all = finds_all p r path in (all.none.0 (found_none (first (examined p r) (places r)) all.never_yes answered)).0
@@ -301,7 +314,7 @@ unfolding admission
 wide_found_law p r stuck path one = ap answer (((finds_all p r path).wide stuck).1 one)
 
 -- nothing is found in a run that the path admits where no weighing is stuck
-pub complete_law : (p : Path) (r : Run) → IsPath p → Admitted p r → NothingPasses p r → admission p r ≡ Yes
+pub complete_law : (p : Path) (r : Run) → IsPath p → Admitted p r → NothingOverflows p r → admission p r ≡ Yes
 unfolding admission
 complete_law p r path admitted small = ap answer ((finds_all p r path).none.1 (small, holds_everywhere p r admitted))
 

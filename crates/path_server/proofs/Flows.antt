@@ -7,14 +7,14 @@ use Rattle.whole.specs.Numbers.{IsWithin}
 use Rattle.weighing.specs.Weight.{Weight}
 use Rattle.weighing.specs.Weighed.{added, start, times, weighed, weighed_from}
 use Rattle.path_server.specs.Claims.{Factors}
-use Rattle.weighing.specs.declared.weighings.Term.{Term}
+use Rattle.weighing.specs.declared.weighings.Summand.{Summand}
 use Rattle.claims.specs.Subjects.{each_flow}
 
-pub weighed-append : (w : Weight) (xs ys : List Term) → weighed_from w (xs ++ ys) ≡ weighed_from (weighed_from w xs) ys
-weighed-append w xs ys = fold-append (λ (a : Weight) (t : Term). added a t.0 t.1) w xs ys
+pub weighed-append : (w : Weight) (xs ys : List Summand) → weighed_from w (xs ++ ys) ≡ weighed_from (weighed_from w xs) ys
+weighed-append w xs ys = fold-append (λ (a : Weight) (t : Summand). added a t.0 t.1) w xs ys
 
 -- the terms of one more flow
-pub one_more_flow : (w u v : Weight) (terms : ℕ → List Term) (n : ℕ)
+pub one_more_flow : (w u v : Weight) (terms : ℕ → List Summand) (n : ℕ)
     → u ≡ weighed_from w (each_flow terms n) → v ≡ weighed_from u (terms (n + 1))
     → v ≡ weighed_from w (each_flow terms (n + 1))
 one_more_flow w u v terms n before here =
@@ -46,7 +46,7 @@ two_terms w k y e l z f small within same small' within' same' =
 
 -- ---- a weighing that is made part by part, each at factors of its own
 
-pub two_parts : (row : ℕ) (w0 w1 w2 : Weight) (first second : Factors → List Term) (s t a b : Factors)
+pub two_parts : (row : ℕ) (w0 w1 w2 : Weight) (first second : Factors → List Summand) (s t a b : Factors)
     → w0 ≡ start row → w1 ≡ weighed_from w0 (first s) → w2 ≡ weighed_from w1 (second t) → s ≡ a → t ≡ b
     → w2 ≡ weighed row (first a ++ second b)
 two_parts row w0 w1 w2 first second s t a b begun one two same same' =
@@ -54,7 +54,7 @@ two_parts row w0 w1 w2 first second s t a b begun one two same same' =
     ∙ ap (λ w. weighed_from w (first s ++ second t)) begun
     ∙ ap (λ e. weighed row (first e ++ second t)) same ∙ ap (λ e. weighed row (first a ++ second e)) same'
 
-pub three_parts : (row : ℕ) (w0 w1 w2 w3 : Weight) (first second third : Factors → List Term) (s t u a b d : Factors)
+pub three_parts : (row : ℕ) (w0 w1 w2 w3 : Weight) (first second third : Factors → List Summand) (s t u a b d : Factors)
     → w0 ≡ start row → w1 ≡ weighed_from w0 (first s) → w2 ≡ weighed_from w1 (second t) → w3 ≡ weighed_from w2 (third u)
     → s ≡ a → t ≡ b → u ≡ d → w3 ≡ weighed row ((first a ++ second b) ++ third d)
 three_parts row w0 w1 w2 w3 first second third s t u a b d begun one two three same same' same'' =

@@ -8,7 +8,7 @@ use Rattle.whole.specs.declared.answers.Pair.{Pair}
 use Rattle.whole.proofs.Integers.{<ℤ-not-≤ℤ, *ℤ-≤ℤ, ≤ℤ_of_*ℤ, ≤ℤ_or_>, *ℤ-+ℤ, neg_ℤ-*ℤ}
 use Rattle.weighing.specs.Claim.{Holds, all_claims, compare, total}
 use Rattle.weighing.specs.Weighed.{times}
-use Rattle.weighing.specs.declared.weighings.Term.{Term}
+use Rattle.weighing.specs.declared.weighings.Summand.{Summand}
 use Rattle.weighing.specs.declared.weighings.Rel5.TheVariants.{AtMost, AtLeast}
 use Rattle.run_rows.specs.Runs.{flow_count, lost, waste}
 use Rattle.run_rows.specs.declared.rows.Run.{Run}
@@ -165,7 +165,7 @@ buffer_number : (p : Server) (b : Pair) → IsServer p → p.buffer ≡ Some b �
 buffer_number p b path is = subst IsBuffer is path.buffer
 
 -- two parts that k measures, joined
-joined_measures : (k : ℤ) (xs ys : List Term) (e f : ℤ) → k *ℤ total xs ≡ e → k *ℤ total ys ≡ f → k *ℤ total (xs ++ ys) ≡ e +ℤ f
+joined_measures : (k : ℤ) (xs ys : List Summand) (e f : ℤ) → k *ℤ total xs ≡ e → k *ℤ total ys ≡ f → k *ℤ total (xs ++ ys) ≡ e +ℤ f
 joined_measures k xs ys e f one two =
     ap (λ n. k *ℤ n) (total-append xs ys) ∙ *ℤ-+ℤ k (total xs) (total ys) ∙ (omega (arith, ints))
 
@@ -211,9 +211,9 @@ queue_was_full_means p b r i h path is =
     let k : ℤ = common_cofactor p b in
     let m = common_measures p b path (buffer_number p b path is) is in
     let o = opposite_measures p s k m.measures in
-    let queue : List Term = accepted (in_run r) (flow_count r 0) s i in
-    let served : List Term = allowance (in_run r) p (opposite s) h 0 in
-    let room_left : List Term = room (in_run r) b (opposite s) in
+    let queue : List Summand = accepted (in_run r) (flow_count r 0) s i in
+    let served : List Summand = allowance (in_run r) p (opposite s) h 0 in
+    let room_left : List Summand = room (in_run r) b (opposite s) in
     let parts : total ((queue ++ served) ++ room_left) ≡ total queue +ℤ total (served ++ room_left) =
     (ap total (append_assoc queue served room_left) ∙ total-append queue (served ++ room_left)) in
     difference_means k _ _ _ (unit p *ℤ all_accepted r i) (allowed p r h 0 +ℤ buffer p b *ℤ r.over) m.some parts

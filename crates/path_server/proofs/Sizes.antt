@@ -5,7 +5,7 @@ use Rattle.std.proofs.lemmas.Int.{ints, to_z-of_z, fits_signed_from_abs, unsigne
 use Rattle.std.proofs.lemmas.Nat.Gcd.{le_of_dvd, dvd_refl}
 use Rattle.std.specs.Int.{w128}
 use Rattle.whole.specs.Numbers.{lcm_of, whole}
-use Rattle.whole.proofs.Passing.{whole_kept}
+use Rattle.whole.proofs.Overflow.{whole_kept}
 use Rattle.path_server.proofs.Flows.{given, given_is}
 use Rattle.whole.proofs.Integers.{unsigned_abs-+ℤ, unsigned_abs-neg_ℤ}
 use Rattle.whole.proofs.Divisors.{IsLcm-lcm_of}

@@ -4,11 +4,11 @@ use Rattle.std.proofs.lemmas.Int.{ints}
 use Rattle.whole.proofs.Integers.{*ℤ-+ℤ}
 use Rattle.weighing.specs.Claim.{total}
 use Rattle.weighing.specs.Weighed.{times}
-use Rattle.weighing.specs.declared.weighings.Term.{Term}
+use Rattle.weighing.specs.declared.weighings.Summand.{Summand}
 use Rattle.run_rows.specs.Runs.{over_flows}
 use Rattle.claims.specs.Subjects.{each_flow}
 
-pub total-append : (xs ys : List Term) → total (xs ++ ys) ≡ total xs +ℤ total ys
+pub total-append : (xs ys : List Summand) → total (xs ++ ys) ≡ total xs +ℤ total ys
 total-append [] ys = omega (arith, ints)
 total-append (t ∷ xs) ys = let rest = total-append xs ys in omega (arith, ints)
 

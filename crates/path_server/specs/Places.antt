@@ -3,7 +3,7 @@ use Rattle.std.specs.Prelude.{◌≡◌, ◌↔◌, ℕ, ◌+◌, Bool, true, fa
 use Rattle.whole.specs.declared.answers.Stuck.{Stuck}
 use Rattle.weighing.specs.First.{below, first}
 use Rattle.weighing.specs.Claim.{outcome}
-use Rattle.weighing.specs.Passing.{IsFirstPassing, NothingPasses as NothingPassesIn}
+use Rattle.weighing.specs.Overflow.{IsFirstOverflow, NothingOverflows as NothingOverflowsIn}
 use Rattle.run_rows.specs.Runs.{flow_count}
 use Rattle.run_rows.specs.declared.rows.Run.{Run}
 use Rattle.path_server.specs.Claims.{claim_of}
@@ -16,12 +16,12 @@ use Rattle.path_server.specs.declared.path_rules.PathRule.{PathRule}
 use Rattle.path_server.specs.declared.path_rules.PathRule.TheVariants.{Start, Growth, Service, Ceiling, Floor, Waste, Acceptance, Buffer, Loss, WasteRate}
 
 -- where a rule is asked: at a row, for a flow or, under flow 0, for the path as a whole
-pub record Place : Type 0 where
+pub record RulePlace : Type 0 where
   pub row : ℕ
   pub rule : PathRule
   pub flow : ℕ
 
-abbrev pub at_place : ℕ → PathRule → ℕ → Place
+abbrev pub at_place : ℕ → PathRule → ℕ → RulePlace
 at_place i rule f = record { row = i; rule = rule; flow = f }
 
 abbrev pub rules : List PathRule
@@ -41,22 +41,22 @@ number Loss = 8
 number WasteRate = 9
 
 -- the places of a rule at a row, of a row, and of the whole run, in their order
-unfoldable pub places_of_rule : Run → ℕ → PathRule → List Place
+unfoldable pub places_of_rule : Run → ℕ → PathRule → List RulePlace
 places_of_rule r i rule = map (at_place i rule) (below (flow_count r 0 + 1))
 
-unfoldable pub places_of_row : Run → ℕ → List Place
+unfoldable pub places_of_row : Run → ℕ → List RulePlace
 places_of_row r i = flat_map (places_of_rule r i) rules
 
-unfoldable pub places : Run → List Place
+unfoldable pub places : Run → List RulePlace
 places r = flat_map (places_of_row r) (below (length r.rows))
 
--- a place where nothing is amiss is passed; else a weighing passes there, or the rule is broken
-abbrev pub stop_at : Place → Result Bool Stuck → Result (Unit {0}) Admit
+-- a place where nothing is amiss is passed; else a weighing overflows there, or the rule is broken
+abbrev pub stop_at : RulePlace → Result Bool Stuck → Result (Unit {0}) Admit
 stop_at place (Ok true) = Ok tt
 stop_at place (Ok false) = Err (Broken (number place.rule) place.row place.flow)
 stop_at place (Err stuck) = Err (Wide stuck)
 
-unfoldable pub examined : Path → Run → Place → Result (Unit {0}) Admit
+unfoldable pub examined : Path → Run → RulePlace → Result (Unit {0}) Admit
 examined p r place = stop_at place (outcome place.row (claim_of p r place.rule place.row place.flow))
 
 abbrev pub answer : Result (Unit {0}) Admit → Admit
@@ -67,42 +67,42 @@ answer (Err stop) = stop
 unfoldable pub admission : Path → Run → Admit
 admission p r = answer (first (examined p r) (places r))
 
--- the first product or sum that passes in weighing the place's comparisons; and that none does
-abbrev pub IsStuckAt : Path → Run → Place → Stuck → Type 0
-IsStuckAt p r place stuck = IsFirstPassing place.row (claim_of p r place.rule place.row place.flow) stuck
+-- the first product or sum that overflows in weighing the place's comparisons; and that none does
+abbrev pub IsStuckAt : Path → Run → RulePlace → Stuck → Type 0
+IsStuckAt p r place stuck = IsFirstOverflow place.row (claim_of p r place.rule place.row place.flow) stuck
 
-abbrev pub NothingPassesAt : Path → Run → Place → Type 0
-NothingPassesAt p r place = NothingPassesIn (claim_of p r place.rule place.row place.flow)
+abbrev pub NothingOverflowsAt : Path → Run → RulePlace → Type 0
+NothingOverflowsAt p r place = NothingOverflowsIn (claim_of p r place.rule place.row place.flow)
 
-abbrev pub HoldsAt : Path → Run → Place → Type 0
+abbrev pub HoldsAt : Path → Run → RulePlace → Type 0
 HoldsAt p r place = RuleHolds (server_of p) r place.rule place.row place.flow
 
 -- of these places: the rule of that number is broken at row i for flow f; every rule holds at every place before; and
--- nothing passes at it and before
-pub record IsFirstBrokenOf (p : Path) (r : Run) (ps : List Place) (rule i f : ℕ) : Type 0 where
-  pub before : List Place
+-- nothing overflows at it and before
+pub record IsFirstBrokenOf (p : Path) (r : Run) (ps : List RulePlace) (rule i f : ℕ) : Type 0 where
+  pub before : List RulePlace
   pub broken : PathRule
-  pub after : List Place
+  pub after : List RulePlace
   pub numbered : number broken ≡ rule
   pub parts : ps ≡ before ++ at_place i broken f ∷ after
-  pub weighed : All (NothingPassesAt p r) before
+  pub weighed : All (NothingOverflowsAt p r) before
   pub held : All (HoldsAt p r) before
-  pub weighed_here : NothingPassesAt p r (at_place i broken f)
+  pub weighed_here : NothingOverflowsAt p r (at_place i broken f)
   pub breaks : RuleHolds (server_of p) r broken i f → ⊥
 
--- of these places: a weighing is stuck at one; every rule holds at every place before, and nothing passes there
-pub record IsFirstWideOf (p : Path) (r : Run) (ps : List Place) (stuck : Stuck) : Type 0 where
-  pub before : List Place
-  pub place : Place
-  pub after : List Place
+-- of these places: a weighing is stuck at one; every rule holds at every place before, and nothing overflows there
+pub record IsFirstWideOf (p : Path) (r : Run) (ps : List RulePlace) (stuck : Stuck) : Type 0 where
+  pub before : List RulePlace
+  pub place : RulePlace
+  pub after : List RulePlace
   pub parts : ps ≡ before ++ place ∷ after
-  pub weighed : All (NothingPassesAt p r) before
+  pub weighed : All (NothingOverflowsAt p r) before
   pub held : All (HoldsAt p r) before
-  pub passes : IsStuckAt p r place stuck
+  pub overflows : IsStuckAt p r place stuck
 
--- what is found at these places, in their order: nothing where every rule holds and nothing passes, else what comes first
-pub record Finds (p : Path) (r : Run) (ps : List Place) (found : Result (Unit {0}) Admit) : Type 0 where
-  pub none : (found ≡ Ok tt) ↔ (All (NothingPassesAt p r) ps × All (HoldsAt p r) ps)
+-- what is found at these places, in their order: nothing where every rule holds and nothing overflows, else what comes first
+pub record Finds (p : Path) (r : Run) (ps : List RulePlace) (found : Result (Unit {0}) Admit) : Type 0 where
+  pub none : (found ≡ Ok tt) ↔ (All (NothingOverflowsAt p r) ps × All (HoldsAt p r) ps)
   pub broken : (rule i f : ℕ) → (found ≡ Err (Broken rule i f)) ↔ IsFirstBrokenOf p r ps rule i f
   pub wide : (stuck : Stuck) → (found ≡ Err (Wide stuck)) ↔ IsFirstWideOf p r ps stuck
   pub never_yes : found ≡ Err Yes → ⊥
@@ -113,6 +113,6 @@ IsFirstBroken p r rule i f = IsFirstBrokenOf p r (places r) rule i f
 abbrev pub IsFirstWide : Path → Run → Stuck → Type 0
 IsFirstWide p r stuck = IsFirstWideOf p r (places r) stuck
 
--- nothing passes anywhere
-abbrev pub NothingPasses : Path → Run → Type 0
-NothingPasses p r = All (NothingPassesAt p r) (places r)
+-- nothing overflows anywhere
+abbrev pub NothingOverflows : Path → Run → Type 0
+NothingOverflows p r = All (NothingOverflowsAt p r) (places r)

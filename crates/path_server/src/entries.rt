@@ -11,7 +11,7 @@ ghost use Rattle.path_server.specs.Claims.{accepted, allowance, new_losses, room
 use crate::scales::Scale;
 use crate::settings::Path;
 use run_rows::Run;
-use weighing::{Term, Weighing};
+use weighing::{Summand, Weighing};
 use whole::Pair;
 
 /// The weighing with the service of each flow.
@@ -24,7 +24,7 @@ pub fn plus_service(start: Weighing, scale: &Scale, run: &Run, row: u32) -> Weig
     let mut weighing = start;
     for index in 0..run.flow_count() {
         let now = run.flow(row, index + 1);
-        weighing = weighing.plus_all(&[Term(scale.unit, now.s)]);
+        weighing = weighing.plus_all(&[Summand(scale.unit, now.s)]);
     }
     weighing
 }
@@ -39,7 +39,7 @@ pub fn plus_accepted(start: Weighing, scale: &Scale, run: &Run, row: u32) -> Wei
     let mut weighing = start;
     for index in 0..run.flow_count() {
         let now = run.flow(row, index + 1);
-        weighing = weighing.plus_all(&[Term(scale.unit, now.a), Term(scale.minus, now.l)]);
+        weighing = weighing.plus_all(&[Summand(scale.unit, now.a), Summand(scale.minus, now.l)]);
     }
     weighing
 }
@@ -54,7 +54,7 @@ pub fn plus_new_losses(start: Weighing, run: &Run, row: u32, before: u32) -> Wei
     let mut weighing = start;
     for index in 0..run.flow_count() {
         let (old, new) = (run.flow(before, index + 1), run.flow(row, index + 1));
-        weighing = weighing.plus_all(&[Term(1, new.l), Term(-1, old.l)]);
+        weighing = weighing.plus_all(&[Summand(1, new.l), Summand(-1, old.l)]);
     }
     weighing
 }
@@ -78,9 +78,9 @@ pub fn plus_allowance(
     let rate = scale.rate_over(path, row, back);
     let wasted = run.waste(row.saturating_sub(back));
     let terms = [
-        Term(rate, run.over),
-        Term(scale.unit, run.credit),
-        Term(scale.minus, wasted),
+        Summand(rate, run.over),
+        Summand(scale.unit, run.credit),
+        Summand(scale.minus, wasted),
     ];
     start.plus_all(&terms)
 }
@@ -92,5 +92,5 @@ pub fn plus_room(start: Weighing, buffer: &Pair, scale: &Scale, run: &Run) -> We
     requires scale_in { IsScale scale.now }
     ensures { result ≡ weighed_from start (room (in_run run.now) buffer.now (factors scale.now)) }
 {
-    start.plus_all(&[Term(scale.buffer_of(buffer), run.over)])
+    start.plus_all(&[Summand(scale.buffer_of(buffer), run.over)])
 }

@@ -8,11 +8,11 @@ ghost use Rattle.claims.specs.Subjects.{in_run};
 ghost use Rattle.path_server.specs.Claims.{acceptance_claims, growth_claims, is_zero, no_fall, not_negative, service_claims, start_claims};
 
 use run_rows::{FlowRow, Run};
-use weighing::{Rel5, Term, both, compare};
+use weighing::{Rel5, Summand, both, compare};
 use whole::Stuck;
 
 /// `P0`.
-#[tactic(auto, using(whole::proofs::Passing::signed), unfolding(crate::specs::Claims::start_claims))]
+#[tactic(auto, using(whole::proofs::Overflow::signed), unfolding(crate::specs::Claims::start_claims))]
 pub fn start(run: &Run, row: u32, flow: u32) -> Result<bool, Stuck>
     requires run_in { IsRun run.now }
     requires row_in { row < length run.now.rows }
@@ -33,8 +33,8 @@ fn path_starts_empty(run: &Run) -> Result<bool, Stuck>
     requires row_in { 0 < length run.now.rows }
     ensures { result ≡ outcome 0 (all_of (is_zero times (waste run.now 0)) (not_negative times run.now.credit)) }
 {
-    let wasted = compare(0, &[Term(1, run.waste(0))], Rel5::Equal);
-    let credit = compare(0, &[Term(1, run.credit)], Rel5::AtLeast);
+    let wasted = compare(0, &[Summand(1, run.waste(0))], Rel5::Equal);
+    let credit = compare(0, &[Summand(1, run.credit)], Rel5::AtLeast);
     both(wasted, credit)
 }
 
@@ -44,14 +44,14 @@ fn flow_starts_empty(now: &FlowRow) -> Result<bool, Stuck>
     requires l_in { IsEntry now.now.l }
     ensures { result ≡ outcome 0 (all_of (is_zero times now.now.s) (all_of (is_zero times now.now.l) (not_negative times now.now.a))) }
 {
-    let served = compare(0, &[Term(1, now.s)], Rel5::Equal);
-    let lost = compare(0, &[Term(1, now.l)], Rel5::Equal);
-    let arrived = compare(0, &[Term(1, now.a)], Rel5::AtLeast);
+    let served = compare(0, &[Summand(1, now.s)], Rel5::Equal);
+    let lost = compare(0, &[Summand(1, now.l)], Rel5::Equal);
+    let arrived = compare(0, &[Summand(1, now.a)], Rel5::AtLeast);
     both(served, both(lost, arrived))
 }
 
 /// `P1`.
-#[tactic(auto, using(whole::proofs::Passing::signed), unfolding(crate::specs::Claims::growth_claims))]
+#[tactic(auto, using(whole::proofs::Overflow::signed), unfolding(crate::specs::Claims::growth_claims))]
 pub fn growth(run: &Run, row: u32, flow: u32) -> Result<bool, Stuck>
     requires run_in { IsRun run.now }
     requires row_in { row < length run.now.rows }
@@ -73,7 +73,7 @@ fn path_grows(run: &Run, row: u32) -> Result<bool, Stuck>
     requires row_in { row < length run.now.rows }
     ensures { result ≡ outcome row (no_fall times (waste run.now (row - 1)) (waste run.now row)) }
 {
-    let terms = [Term(1, run.waste(row)), Term(-1, run.waste(row - 1))];
+    let terms = [Summand(1, run.waste(row)), Summand(-1, run.waste(row - 1))];
     compare(row, &terms, Rel5::AtLeast)
 }
 
@@ -86,14 +86,14 @@ fn flow_grows(row: u32, old: &FlowRow, new: &FlowRow) -> Result<bool, Stuck>
     requires new_l { IsEntry new.now.l }
     ensures { result ≡ outcome row (all_of (no_fall times old.now.a new.now.a) (all_of (no_fall times old.now.s new.now.s) (no_fall times old.now.l new.now.l))) }
 {
-    let arrived = compare(row, &[Term(1, new.a), Term(-1, old.a)], Rel5::AtLeast);
-    let served = compare(row, &[Term(1, new.s), Term(-1, old.s)], Rel5::AtLeast);
-    let lost = compare(row, &[Term(1, new.l), Term(-1, old.l)], Rel5::AtLeast);
+    let arrived = compare(row, &[Summand(1, new.a), Summand(-1, old.a)], Rel5::AtLeast);
+    let served = compare(row, &[Summand(1, new.s), Summand(-1, old.s)], Rel5::AtLeast);
+    let lost = compare(row, &[Summand(1, new.l), Summand(-1, old.l)], Rel5::AtLeast);
     both(arrived, both(served, lost))
 }
 
 /// `P2`.
-#[tactic(auto, using(whole::proofs::Passing::signed), unfolding(crate::specs::Claims::service_claims))]
+#[tactic(auto, using(whole::proofs::Overflow::signed), unfolding(crate::specs::Claims::service_claims))]
 pub fn service(run: &Run, row: u32, flow: u32) -> Result<bool, Stuck>
     requires run_in { IsRun run.now }
     requires row_in { row < length run.now.rows }
@@ -106,13 +106,13 @@ pub fn service(run: &Run, row: u32, flow: u32) -> Result<bool, Stuck>
     let now = run.flow(row, flow);
     compare(
         row,
-        &[Term(1, now.a), Term(-1, now.l), Term(-1, now.s)],
+        &[Summand(1, now.a), Summand(-1, now.l), Summand(-1, now.s)],
         Rel5::AtLeast,
     )
 }
 
 /// `P6`.
-#[tactic(auto, using(whole::proofs::Passing::signed), unfolding(crate::specs::Claims::acceptance_claims))]
+#[tactic(auto, using(whole::proofs::Overflow::signed), unfolding(crate::specs::Claims::acceptance_claims))]
 pub fn acceptance(run: &Run, row: u32, flow: u32) -> Result<bool, Stuck>
     requires run_in { IsRun run.now }
     requires row_in { row < length run.now.rows }
@@ -126,10 +126,10 @@ pub fn acceptance(run: &Run, row: u32, flow: u32) -> Result<bool, Stuck>
     compare(
         row,
         &[
-            Term(1, new.a),
-            Term(-1, new.l),
-            Term(-1, old.a),
-            Term(1, old.l),
+            Summand(1, new.a),
+            Summand(-1, new.l),
+            Summand(-1, old.a),
+            Summand(1, old.l),
         ],
         Rel5::AtLeast,
     )

@@ -11,5 +11,5 @@ mod settings;
 
 pub use admission::{Admit, admits, examine_row};
 pub use path_rules::PathRule;
-pub use scales::Scale;
+pub use scales::{PathScales, Scale};
 pub use settings::{Path, Setting};

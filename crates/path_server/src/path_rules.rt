@@ -1,3 +1,4 @@
+use crate::scales::PathScales;
 use crate::settings::Path;
 use crate::{flow_rules, server_rules};
 use run_rows::Run;
@@ -51,6 +52,7 @@ impl PathRule {
     ghost use Rattle.path_server.specs.Claims.{claim_of};
     ghost use Rattle.path_server.specs.Limits.{IsPath};
     ghost use Rattle.path_server.specs.Places.{number};
+    ghost use Rattle.path_server.specs.Scales.{AreScales};
 
     /// The number that names the rule, 0 to 9.
     pub fn number(self) -> u8
@@ -71,9 +73,17 @@ impl PathRule {
     }
 
     /// Whether the rule holds at a row for a flow or, under flow 0, for the path as a whole, or the first
-    /// operation that passes in weighing its comparisons there.
-    pub(crate) fn outcome(self, path: &Path, run: &Run, row: u32, flow: u32) -> Result<bool, Stuck>
+    /// operation that overflows in weighing its comparisons there.
+    pub(crate) fn outcome(
+        self,
+        path: &Path,
+        scales: &PathScales,
+        run: &Run,
+        row: u32,
+        flow: u32,
+    ) -> Result<bool, Stuck>
         requires path_in { IsPath path.now }
+        requires scales_in { AreScales path.now scales.now }
         requires run_in { IsRun run.now }
         requires row_in { row < length run.now.rows }
         requires flow_in { flow ≤ flow_count run.now 0 }
@@ -83,13 +93,13 @@ impl PathRule {
             PathRule::Start => flow_rules::start(run, row, flow),
             PathRule::Growth => flow_rules::growth(run, row, flow),
             PathRule::Service => flow_rules::service(run, row, flow),
-            PathRule::Ceiling => server_rules::ceiling(path, run, row, flow),
-            PathRule::Floor => server_rules::floor(path, run, row, flow),
-            PathRule::Waste => server_rules::waste(path, run, row, flow),
+            PathRule::Ceiling => server_rules::ceiling(path, scales, run, row, flow),
+            PathRule::Floor => server_rules::floor(path, scales, run, row, flow),
+            PathRule::Waste => server_rules::waste(path, scales, run, row, flow),
             PathRule::Acceptance => flow_rules::acceptance(run, row, flow),
-            PathRule::Buffer => server_rules::buffer(path, run, row, flow),
-            PathRule::Loss => server_rules::loss(path, run, row, flow),
-            PathRule::WasteRate => server_rules::waste_rate(path, run, row, flow),
+            PathRule::Buffer => server_rules::buffer(path, scales, run, row, flow),
+            PathRule::Loss => server_rules::loss(path, scales, run, row, flow),
+            PathRule::WasteRate => server_rules::waste_rate(path, scales, run, row, flow),
         }
     }
 }

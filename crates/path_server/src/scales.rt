@@ -91,6 +91,32 @@ impl Scale {
     }
 }
 
+/// The scales of a path's rules. They are constants of the path, so they are made once for all rows.
+#[derive(Clone, Copy, Debug)]
+pub struct PathScales {
+    /// For comparisons whose constants are multiples of the rate alone.
+    pub(crate) rate: Scale,
+    /// For those with multiples of the buffer too, where there is one.
+    pub(crate) buffer: Scale,
+}
+
+impl PathScales {
+    ghost use Rattle.path_server.specs.Scales.{AreScales};
+
+    /// Those of the path. It takes no memory.
+    pub fn of(path: &Path) -> PathScales
+        requires { IsPath path.now }
+        ensures { AreScales path.now result }
+    {
+        let rate = Scale::of_rate(path);
+        let buffer = match &path.buffer {
+            Some(buffer) => Scale::of_buffer(path, buffer),
+            None => rate,
+        };
+        PathScales { rate, buffer }
+    }
+}
+
 /// The number with its sign turned.
 fn negated(number: i128) -> i128
     requires { unsigned_abs number < 2 ^ 127 }

@@ -5,8 +5,8 @@ use Rattle.ccac_ports.specs.Ports.{HasRisen, Tells, Told}
 use Rattle.problem_smt.specs.Fetched.{AreFetched, BothEnd, FetchEnds, IsFetched, IsLater, at_controller, at_question, faulty, longer}
 use Rattle.problem_smt.specs.Halted.{HaltsBy}
 use Rattle.problem_smt.specs.Reports.{Answer, most_bytes}
-use Rattle.problem_smt.specs.declared.fetching.Halt.{Halt}
-use Rattle.problem_smt.specs.declared.fetching.Halt.TheVariants.{Report, NoMemory}
+use Rattle.problem_smt.specs.declared.fetching.EarlyEnd.{EarlyEnd}
+use Rattle.problem_smt.specs.declared.fetching.EarlyEnd.TheVariants.{Report, NoMemory}
 use Rattle.problem_smt.specs.declared.reports.Source.{Source}
 use Rattle.problem_smt.specs.declared.reports.Source.TheVariants.{Controller, Question}
 
@@ -28,11 +28,11 @@ later_ends old middle new source name answer later (longer rose past) =
     longer (rises (old.excesses name) (middle.excesses name) (new.excesses name) (later.excesses_stay name) rose)
     (subst (λ told. IfSome told (λ held. most_bytes < length held)) (later.kept name) past)
 
-pub first_ends : (old new : Told) (c q : List ℕ) (halt : Halt) → HaltsBy (FetchEnds old new Controller c) halt → HaltsBy (BothEnd old new c q) halt
+pub first_ends : (old new : Told) (c q : List ℕ) (halt : EarlyEnd) → HaltsBy (FetchEnds old new Controller c) halt → HaltsBy (BothEnd old new c q) halt
 first_ends old new c q (Report report) ends = at_controller ends
 first_ends old new c q NoMemory ends = tt
 
-pub second_ends : (old middle new : Told) (c q controller : List ℕ) (halt : Halt) → IsLater old middle → IsFetched old c controller
+pub second_ends : (old middle new : Told) (c q controller : List ℕ) (halt : EarlyEnd) → IsLater old middle → IsFetched old c controller
     → HaltsBy (FetchEnds middle new Question q) halt → HaltsBy (BothEnd old new c q) halt
 second_ends old middle new c q controller (Report report) later fetched ends =
     at_question controller fetched (later_ends old middle new Question q _ later ends)

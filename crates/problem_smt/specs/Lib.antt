@@ -3,7 +3,7 @@ pub mod Ordered
 pub mod Reports
 pub mod Shown
 pub mod Problems
-pub mod Refusals
+pub mod AskRefusals
 pub mod Fetched
 pub mod Halted
 pub mod Ended

@@ -2,7 +2,7 @@ ghost use Rattle.std.specs.Prelude.{◌≡◌, ◌<◌, ◌-◌, ◌^◌, length
 ghost use Rattle.ctrl_types.specs.Limits.{IsController};
 ghost use Rattle.question_text.specs.Limits.{IsQuestion};
 ghost use Rattle.problem_smt.specs.Problems.{Answers, answer_of, problem_of, text_of};
-ghost use Rattle.problem_smt.specs.Refusals.{SaysOfFault};
+ghost use Rattle.problem_smt.specs.AskRefusals.{SaysOfFault};
 ghost use Rattle.problem_smt.specs.Shown.{shown};
 
 use crate::reports::{Report, Source};

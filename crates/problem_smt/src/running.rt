@@ -5,7 +5,7 @@ ghost use Rattle.problem_smt.specs.Requests.{request_of};
 ghost use Rattle.problem_smt.specs.Shown.{shown};
 
 use crate::answering::answer;
-use crate::fetching::{Halt, fetch_both};
+use crate::fetching::{EarlyEnd, fetch_both};
 use crate::reports::Report;
 use crate::requests::{Request, request_of};
 use ccac_ports::{Folder, PutFault, Sink};
@@ -53,8 +53,8 @@ fn carried_out<F: Folder>(
             texts.controller.as_slice(),
             texts.question.as_slice(),
         ),
-        Err(Halt::Report(report)) => Ok(report),
-        Err(Halt::NoMemory) => Err(NoMemory),
+        Err(EarlyEnd::Report(report)) => Ok(report),
+        Err(EarlyEnd::NoMemory) => Err(NoMemory),
     }
 }
 

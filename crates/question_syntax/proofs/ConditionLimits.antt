@@ -10,7 +10,7 @@ use Rattle.condition_syntax.specs.declared.conditions.Style.TheVariants.{Questio
 use Rattle.condition_syntax.specs.declared.expressions.Name.{Name}
 use Rattle.condition_syntax.specs.declared.expressions.ETerm.{ETerm}
 use Rattle.condition_syntax.specs.Trees.{Condition}
-use Rattle.condition_syntax.specs.Printing.{is_conjunction, is_disjunction}
+use Rattle.condition_syntax.specs.CanonicalText.{is_conjunction, is_disjunction}
 use Rattle.condition_syntax.specs.Grammar.{SpellsStep, no_step, some_step, SpellsName, placed, SpellsTerm, constant, multiple, single, SpellsExpr, unsigned, negative, SpellsSimple, truth, falsity, compared}
 use Rattle.condition_syntax.proofs.TextShows.{from_line_parts}
 use Rattle.ctrl_syntax.specs.Rest.{fronts}

@@ -11,7 +11,7 @@ use Rattle.source_text.specs.Header.{texts}
 use Rattle.path_server.specs.declared.settings.Setting.{Setting}
 use Rattle.condition_syntax.proofs.FrontLaws.{chosen}
 use Rattle.ctrl_syntax.specs.Rest.{fronts}
-use Rattle.ctrl_syntax.specs.Seen.{GivesSeenUnless}
+use Rattle.ctrl_syntax.specs.Views.{GivesSeenUnless}
 use Rattle.ctrl_syntax.proofs.SectionsAgain.{rest_of}
 use Rattle.ctrl_syntax.proofs.PartRefusals.{err_is}
 use Rattle.question_syntax.specs.declared.syntax.QuestionSyntax.{QuestionSyntax}
@@ -21,7 +21,7 @@ use Rattle.question_syntax.specs.Refused.{FirstRefused, IsRefused, no_line, no_h
 use Rattle.question_syntax.specs.Reading.{refusal, sections_by, names_question, text_by, text_of}
 use Rattle.question_syntax.proofs.LinesTaken.{header_named, text_spelled}
 use Rattle.question_syntax.proofs.LinesAgain.{text_again}
-use Rattle.question_syntax.proofs.Walks.{drop, sections_walk}
+use Rattle.question_syntax.proofs.RefusalOrder.{drop, sections_walk}
 use Rattle.question_syntax.proofs.FirstRefusals.{first_is_read, read_is_first}
 
 -- ---- the text is refused as its lines are

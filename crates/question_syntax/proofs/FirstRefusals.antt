@@ -17,7 +17,7 @@ use Rattle.ctrl_syntax.proofs.PartRefusals.{absent_word, not_said, err_is}
 use Rattle.question_syntax.specs.Reading.{refusal, lacks}
 use Rattle.question_syntax.specs.Refused.{condition, Kind, LineGoes, ValueStops, LineStops, stray, malformed, setting_kinds, last_kinds, FirstOf, unfinished, here, further, behind as behind_them, AfterEnd, after_end, NoAssume, FirstOfAssumes, too_many, at_one, behind_one, behind_all, FirstRefused}
 use Rattle.question_syntax.proofs.ValueRefusals.{check, goes_checks, stops_checks, checked_goes, checked_stops}
-use Rattle.question_syntax.proofs.Walks.{Walk, line_at, walk, behind_end, behind_assumes, assume_kind, assumes_walk}
+use Rattle.question_syntax.proofs.RefusalOrder.{Walk, line_at, walk, behind_end, behind_assumes, assume_kind, assumes_walk}
 
 -- ---- one line
 

@@ -2,7 +2,7 @@ pub mod ValuesTaken
 pub mod LinesTaken
 pub mod LinesAgain
 pub mod ValueRefusals
-pub mod Walks
+pub mod RefusalOrder
 pub mod FirstRefusals
 pub mod Exactness
 pub mod SettingLimits

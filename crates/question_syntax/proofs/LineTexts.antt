@@ -12,8 +12,8 @@ use Rattle.source_text.proofs.CleanLaws.{AreRight}
 use Rattle.weighing.specs.declared.scales.Num.{Num}
 use Rattle.condition_syntax.specs.declared.conditions.Style.TheVariants.{Question}
 use Rattle.condition_syntax.specs.Grammar.{IsNumber, SpellsCond}
-use Rattle.condition_syntax.specs.Printing.{number_text, condition_text}
-use Rattle.condition_syntax.specs.Printed.{Shows}
+use Rattle.condition_syntax.specs.CanonicalText.{number_text, condition_text}
+use Rattle.condition_syntax.specs.CanonicalTokens.{Shows}
 use Rattle.condition_syntax.proofs.TextShows.{shows_word, shows_number, shows_word_then}
 use Rattle.condition_syntax.proofs.ExpressionTexts.{number_prints}
 use Rattle.condition_syntax.proofs.ConditionTexts.{condition_prints}

@@ -10,7 +10,7 @@ use Rattle.source_text.specs.Lines.{Line, end_number}
 use Rattle.path_server.specs.declared.settings.Setting.{Setting}
 use Rattle.condition_syntax.specs.declared.conditions.Style.TheVariants.{Question}
 use Rattle.condition_syntax.specs.Fronts.{says}
-use Rattle.condition_syntax.specs.Refusals.{refused}
+use Rattle.condition_syntax.specs.RefusalRules.{refused}
 use Rattle.condition_syntax.specs.Conditions.{condition_by}
 use Rattle.condition_syntax.specs.Grammar.{IsNumber, SpellsCond}
 use Rattle.condition_syntax.proofs.FrontLaws.{says_there}

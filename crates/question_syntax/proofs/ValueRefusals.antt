@@ -13,7 +13,7 @@ use Rattle.weighing.specs.declared.scales.Num.{Num}
 use Rattle.condition_syntax.specs.declared.conditions.Style.TheVariants.{Question}
 use Rattle.condition_syntax.specs.declared.faults.Fault.{Fault}
 use Rattle.condition_syntax.specs.Fronts.{says}
-use Rattle.condition_syntax.specs.Refusals.{rule, refused}
+use Rattle.condition_syntax.specs.RefusalRules.{rule, refused}
 use Rattle.condition_syntax.specs.Expressions.{number_of}
 use Rattle.condition_syntax.specs.Conditions.{condition_by}
 use Rattle.condition_syntax.specs.Trees.{Condition}

@@ -11,7 +11,7 @@ use Rattle.source_text.specs.Tokens.{Token, word, number, sign, wrong, after}
 use Rattle.source_text.specs.Shown.{Ahead}
 use Rattle.condition_syntax.specs.declared.conditions.Style.TheVariants.{Question}
 use Rattle.condition_syntax.specs.declared.faults.Fault.{Fault}
-use Rattle.condition_syntax.specs.Refusals.{refused}
+use Rattle.condition_syntax.specs.RefusalRules.{refused}
 use Rattle.condition_syntax.specs.Expressions.{number_of}
 use Rattle.condition_syntax.specs.Conditions.{condition_by}
 use Rattle.condition_syntax.specs.Grammar.{SpellsCond}

@@ -4,7 +4,7 @@ use Rattle.std.specs.Fmt.{decimal}
 use Rattle.whole.specs.declared.answers.Pair.{Pair}
 use Rattle.path_server.specs.declared.settings.Setting.{Setting}
 use Rattle.weighing.specs.declared.scales.Num.{Num}
-use Rattle.condition_syntax.specs.Printing.{number_text, condition_text}
+use Rattle.condition_syntax.specs.CanonicalText.{number_text, condition_text}
 use Rattle.ctrl_syntax.specs.Printed.{line_text}
 use Rattle.question_syntax.specs.Sections.{Wanted, Sections, SameButLines}
 use Rattle.question_syntax.specs.Grammar.{IsText}

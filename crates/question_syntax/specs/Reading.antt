@@ -12,7 +12,7 @@ use Rattle.source_text.specs.Header.{texts}
 use Rattle.weighing.specs.declared.scales.Num.{Num}
 use Rattle.condition_syntax.specs.declared.conditions.Style.TheVariants.{Question}
 use Rattle.condition_syntax.specs.Fronts.{says}
-use Rattle.condition_syntax.specs.Refusals.{refused}
+use Rattle.condition_syntax.specs.RefusalRules.{refused}
 use Rattle.condition_syntax.specs.Expressions.{number_of}
 use Rattle.condition_syntax.specs.Conditions.{condition_by}
 use Rattle.condition_syntax.specs.Trees.{Condition}

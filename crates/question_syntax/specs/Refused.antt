@@ -8,8 +8,8 @@ use Rattle.source_text.specs.Lines.{Line, source_lines, end_number}
 use Rattle.weighing.specs.declared.scales.Num.{Num}
 use Rattle.condition_syntax.specs.declared.conditions.Style.TheVariants.{Question}
 use Rattle.condition_syntax.specs.declared.faults.Fault.{Fault}
-use Rattle.condition_syntax.specs.Refusals.{rule}
-use Rattle.condition_syntax.specs.Refused.{RefusesCond}
+use Rattle.condition_syntax.specs.RefusalRules.{rule}
+use Rattle.condition_syntax.specs.WrongTokens.{RefusesCond}
 use Rattle.condition_syntax.specs.Trees.{Condition}
 use Rattle.condition_syntax.specs.Grammar.{IsNumber, SpellsCond}
 use Rattle.condition_syntax.specs.Ends.{Taken, EndsCond}

@@ -2,8 +2,8 @@
 ghost use Rattle.std.specs.Prelude.{◌≡◌, [], ◌∷◌, codes, IfOk, MatchResult, Ok, Err};
 ghost use Rattle.text_lines.specs.Steps.{Gives, GivesRestUnless};
 ghost use Rattle.condition_syntax.specs.Fronts.{says};
-ghost use Rattle.condition_syntax.specs.Refusals.{GivesRead};
-ghost use Rattle.ctrl_syntax.specs.Seen.{GivesSeenUnless};
+ghost use Rattle.condition_syntax.specs.RefusalRules.{GivesRead};
+ghost use Rattle.ctrl_syntax.specs.Views.{GivesSeenUnless};
 ghost use Rattle.ctrl_syntax.specs.Rest.{behind};
 ghost use Rattle.question_syntax.specs.Sections.{wanted_of, all_wanted_of, sections_of};
 ghost use Rattle.question_syntax.specs.Reading.{refusal, behind_title, count_at, rate_at, buffer_at, nothing_at, titled_by, wanted_by, assumes_by, setting_by, nothing_left, sections_by};

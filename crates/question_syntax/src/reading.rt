@@ -3,7 +3,7 @@ ghost use Rattle.text_lines.specs.Steps.{Fails};
 ghost use Rattle.whole.specs.declared.answers.Refusal.{Refusal};
 ghost use Rattle.source_text.specs.Header.{texts};
 ghost use Rattle.path_server.specs.Limits.{IsSetting};
-ghost use Rattle.ctrl_syntax.specs.Seen.{GivesSeenUnless};
+ghost use Rattle.ctrl_syntax.specs.Views.{GivesSeenUnless};
 ghost use Rattle.question_syntax.specs.Sections.{Sections, sections_of};
 ghost use Rattle.question_syntax.specs.Grammar.{IsText};
 ghost use Rattle.question_syntax.specs.Limits.{IsQuestion};
@@ -20,7 +20,7 @@ use std::alloc::Global;
 use whole::ReadFault;
 
 /// What a question's text says; where the bytes are no such text, the first rule that they break, by the line:
-/// Q1 the header, Q2 a byte that begins no token, Q3 a line word, Q4 the form of a line's value, Q5 a number that passes
+/// Q1 the header, Q2 a byte that begins no token, Q3 a line word, Q4 the form of a line's value, Q5 a number that exceeds
 /// 1,000,000 over 1 to 1,000, Q6 a value out of its range (flows 1 to 4, steps 1 to 32, rate above 0, jitter 0 to 8, rtt
 /// 1 to 8, budget 1 to 16,777,216), Q7 a term or a part of a name, Q8 a part of a condition, Q9 the 17th nesting,
 /// assumption, term or comparison or a name of more than 16 letters, Q10 a token behind a finished line or a line behind

@@ -1,7 +1,7 @@
 //! The values of lines, read from the left.
 ghost use Rattle.std.specs.Prelude.{◌≡◌, ◌<◌, IfOk};
 ghost use Rattle.text_lines.specs.Steps.{Gives};
-ghost use Rattle.condition_syntax.specs.Refusals.{GivesRead};
+ghost use Rattle.condition_syntax.specs.RefusalRules.{GivesRead};
 ghost use Rattle.condition_syntax.specs.Trees.{condition_of};
 ghost use Rattle.question_syntax.specs.Grammar.{pair_of};
 ghost use Rattle.question_syntax.specs.Reading.{count_at, rate_at, positive, buffer_at, condition_at, done_at};

@@ -14,7 +14,7 @@ use Rattle.question_text.specs.declared.conditions.QTerm.{QTerm}
 use Rattle.question_text.specs.declared.names.Count.{Count}
 use Rattle.question_text.specs.declared.names.Count.TheVariants.{Arrived, Served, Lost}
 use Rattle.question_text.specs.Conditions.{Condition}
-use Rattle.question_text.specs.Naming.{StandsFor, credit, waste, all_counted, counted, only_state, own_state, entry_of, flow_written, name_of, of_named, of_written, own_flow_written, state_named, state_text, term_written, lin_written, text_of}
+use Rattle.question_text.specs.NamedValues.{StandsFor, credit, waste, all_counted, counted, only_state, own_state, entry_of, flow_written, name_of, of_named, of_written, own_flow_written, state_named, state_text, term_written, lin_written, text_of}
 use Rattle.question_text.specs.Texts.{condition_written}
 use Rattle.question_text.proofs.MeaningLaws as meaning
 use Rattle.question_text.proofs.MeaningLaws.{AreFound, Means}
@@ -53,7 +53,7 @@ module _ (states : List State) (s : Setting) where
   state_text_is w j e =
       let here = named_at states w j e in
       let at : j ≡ here.place = here.at ∙ omega arith in
-      ap (λ (k : ℕ). text_of (slice_get states k)) at ∙ ap text_of here.is ∙ same_text here.value.name w here.passes
+      ap (λ (k : ℕ). text_of (slice_get states k)) at ∙ ap text_of here.is ∙ same_text here.value.name w here.meets
 
   waste_name : (t : ℕ) → name_of states s (W t) ≡ Some (name (codes "W") None (Some t))
   unfolding name_of

@@ -17,7 +17,7 @@ use Rattle.claims.proofs.Made.{both_in, each_flow_in, map-each_flow}
 use Rattle.claims.proofs.Leaves.{flat_map_in, flat_map_made, leaves_made, leaves_over, remade}
 use Rattle.question_text.specs.Conditions.{Comparison, Condition, compares, condition_of}
 use Rattle.question_text.specs.Expressions.{comparison_claim, condition_claim, leaf_claim, lin_terms, scale_of_two, term_terms}
-use Rattle.question_text.specs.Names.{flow_terms, of_terms, row_at}
+use Rattle.question_text.specs.NameMeanings.{flow_terms, of_terms, row_at}
 use Rattle.question_text.specs.Violation.{assumptions, violation_claim}
 use Rattle.question_text.specs.declared.names.Rows.{Rows}
 use Rattle.question_text.specs.declared.conditions.Of.{Of}
@@ -57,12 +57,6 @@ leaf_made {T} term n at (compares left rel right) =
 pub condition_made : {T : Type 0} (term : ℤ → Subject → T) (n : ℕ) (at : Rows) (c : Condition)
     → with_terms (made term) (condition_claim part n at c) ≡ condition_claim term n at c
 condition_made term n at c = leaves_made term (leaf_claim part n at) (leaf_claim term n at) (leaf_made term n at) c
-
-pub violation_made : {T : Type 0} (term : ℤ → Subject → T) (n : ℕ) (at : Rows) (q : Question)
-    → with_terms (made term) (violation_claim part n at q) ≡ violation_claim term n at q
-violation_made term n at q =
-    ap (λ x. all_of x (with_terms (made term) (opposite (condition_claim part n at (condition_of q.require))))) (condition_made term n at (assumptions q))
-    ∙ ap (λ x. all_of (condition_claim term n at (assumptions q)) (opposite x)) (condition_made term n at (condition_of q.require))
 
 -- ---- over the shape
 

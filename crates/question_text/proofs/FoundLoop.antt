@@ -1,7 +1,7 @@
 -- What is found for each of a list, one element after another: what came before, and what is still to come.
 use Rattle.std.proofs.Common.{◌≡◌, ℕ, ◌+◌, ◌<◌, ◌≤◌, Option, None, Some, List, [], ◌∷◌, ◌++◌, length, get_or, drop, drop_of_length-le, append_assoc, refl, sym, ap, ◌∙◌}
 use Rattle.std.proofs.lemmas.List.{drop_more, append-nil}
-use Rattle.question_text.specs.Naming.{each_found, in_front}
+use Rattle.question_text.specs.NamedValues.{each_found, in_front}
 
 -- a list in front of what is found
 abbrev pub behind : {X : Type 0} → List X → Option (List X) → Option (List X)

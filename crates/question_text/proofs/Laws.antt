@@ -8,7 +8,7 @@ use Rattle.std.proofs.lemmas.List.Elements.{All-nil, All-cons, All-head, All-tai
 use Rattle.whole.specs.declared.answers.Stuck.{Stuck}
 use Rattle.whole.proofs.Integers.{neg_ℤ-*ℤ}
 use Rattle.weighing.specs.Claim.{Holds, total}
-use Rattle.weighing.specs.Passing.{Answers}
+use Rattle.weighing.specs.Overflow.{Answers}
 use Rattle.weighing.specs.Weighed.{times}
 use Rattle.weighing.specs.declared.scales.Side.TheVariants.{Left, Right}
 use Rattle.weighing.specs.declared.weighings.Rel5.{Rel5}
@@ -21,8 +21,8 @@ use Rattle.claim_values.proofs.ClaimLists.{both_mean, either_means}
 use Rattle.claim_values.proofs.ValueLaws.{stands_means}
 use Rattle.question_text.specs.Conditions.{Condition, always, never, leaf, compares, opposite, end_of_all, all_of, end_of_any, any_of, condition_of, conjunction}
 use Rattle.question_text.specs.Expressions.{comparison_claim, comparison_terms, condition_claim, lin_terms, scale_of_two, term_terms}
-use Rattle.question_text.specs.Meaning.{IsFirstPassing, IsTrueIn, NothingPasses, Violates, value}
-use Rattle.question_text.specs.Names.{amount, flow_amount, flow_terms, of_terms}
+use Rattle.question_text.specs.Meaning.{IsFirstOverflow, IsTrueIn, NothingOverflows, Violates, value}
+use Rattle.question_text.specs.NameMeanings.{amount, flow_amount, flow_terms, of_terms}
 use Rattle.question_text.specs.Violation.{assumptions, rows_of, violation, violation_claim}
 use Rattle.question_text.specs.declared.names.Rows.{Rows}
 use Rattle.question_text.specs.declared.conditions.Of.{Of}
@@ -119,31 +119,31 @@ violation_means q r =
       λ v. (assumed.1 (all_true r at q.assumes v.assumed), λ p. v.broken (required.0 p)),
     )
 
--- what is answered is whether the run violates the question, or the first operation that passes
+-- what is answered is whether the run violates the question, or the first operation that overflows
 module _ (q : Question) (r : Run) where
   says : Answers (rows_of q r).last (violation_claim (in_run r) (flow_count r 0) (rows_of q r) q) (violation q r)
   unfolding violation
   says = outcome_answers (rows_of q r).last (violation_claim (in_run r) (flow_count r 0) (rows_of q r) q)
 
-  pub violated_law : violation q r ≡ Ok true → NothingPasses q r × Violates q r
+  pub violated_law : violation q r ≡ Ok true → NothingOverflows q r × Violates q r
   violated_law is = let both = says.holds.0 is in (both.0, (violation_means q r).0 both.1)
 
-  pub violated_again : NothingPasses q r → Violates q r → violation q r ≡ Ok true
+  pub violated_again : NothingOverflows q r → Violates q r → violation q r ≡ Ok true
   violated_again small violates = says.holds.1 (small, (violation_means q r).1 violates)
 
-  pub kept_law : violation q r ≡ Ok false → NothingPasses q r × (Violates q r → ⊥)
+  pub kept_law : violation q r ≡ Ok false → NothingOverflows q r × (Violates q r → ⊥)
   kept_law is = let both = says.fails.0 is in (both.0, λ violates. both.1 ((violation_means q r).1 violates))
 
-  pub kept_again : NothingPasses q r → (Violates q r → ⊥) → violation q r ≡ Ok false
+  pub kept_again : NothingOverflows q r → (Violates q r → ⊥) → violation q r ≡ Ok false
   kept_again small keeps = says.fails.1 (small, λ holds. keeps ((violation_means q r).0 holds))
 
-  pub stuck_law : (stuck : Stuck) → violation q r ≡ Err stuck → IsFirstPassing q r stuck
+  pub stuck_law : (stuck : Stuck) → violation q r ≡ Err stuck → IsFirstOverflow q r stuck
   stuck_law stuck = (says.stuck stuck).0
 
-  pub stuck_again : (stuck : Stuck) → IsFirstPassing q r stuck → violation q r ≡ Err stuck
+  pub stuck_again : (stuck : Stuck) → IsFirstOverflow q r stuck → violation q r ≡ Err stuck
   stuck_again stuck = (says.stuck stuck).1
 
-  -- a violation is never found to be none, and the other way round, whatever passes
+  -- a violation is never found to be none, and the other way round, whatever overflows
   pub violated_found : (answer : Result Bool Stuck) → answer ≡ violation q r → Violates q r
       → (answer ≡ Ok true) ⊎ ((stuck : Stuck) × (answer ≡ Err stuck))
   violated_found (Ok true) is violates = inl refl

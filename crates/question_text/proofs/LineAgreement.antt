@@ -21,13 +21,13 @@ use Rattle.condition_syntax.specs.declared.expressions.ETerm.{ETerm}
 use Rattle.ctrl_types.specs.Denominators.{IsScale, with_numbers}
 use Rattle.ctrl_types.specs.Statements.{any_comparison, coefs, condition_numbers}
 use Rattle.ctrl_types.specs.declared.controllers.Controller.{Controller}
-use Rattle.ctrl_types.proofs.Agreement.{Agrees, fine, stops, agrees_then, agrees_map, agrees_weaker}
+use Rattle.ctrl_types.proofs.EndAlike.{Agrees, fine, stops, agrees_then, agrees_map, agrees_weaker}
 use Rattle.ctrl_types.proofs.DenominatorLaws.{IsLimited, past, within, limited, each_expr_gives, numbers_are}
 use Rattle.question_syntax.specs.Reading.{refusal}
 use Rattle.question_syntax.specs.Sections.{Sections, Wanted}
 use Rattle.question_text.specs.Conditions.{Condition}
-use Rattle.question_text.specs.Naming.{each_found, in_front}
-use Rattle.question_text.specs.Resolving.{Saying, SeenQuestion, Statement, path, wanted as wanted_saying, against, buffer_numbers, judged, line_of, meant, mixed_sides, number_of, numbers, passes_limit, placed, sayings, statements, unknown_sides}
+use Rattle.question_text.specs.NamedValues.{each_found, in_front}
+use Rattle.question_text.specs.StatementRules.{LineContent, SeenQuestion, Statement, path, wanted as wanted_saying, against, buffer_numbers, judged, line_of, meant, mixed_sides, number_of, numbers, exceeds_limit, placed, sayings, statements, unknown_sides}
 use Rattle.question_text.specs.Resolution.{IsAsked, mixes, numbers_by, resolved_by, wanted, wanted_by, wanteds_by}
 use Rattle.question_text.proofs.MeaningLaws.{kinds_mix, means_it, unknown_is}
 
@@ -62,8 +62,8 @@ module _ (c : Controller) where
       by (x ∷ xs) d = by xs (common d x)
 
   numbers_agree : (x : Statement) (den : ℕ) → IsTotal x.before den → All IsNum (numbers x.says)
-      → Agrees (λ next. IsTotal (x.before ++ numbers x.says) next) (numbers_by (line_of x.says) (numbers x.says) den) (against (passes_limit c x) 14 (line_of x.says))
-  unfolding numbers_by passes_limit
+      → Agrees (λ next. IsTotal (x.before ++ numbers x.says) next) (numbers_by (line_of x.says) (numbers x.says) den) (against (exceeds_limit c x) 14 (line_of x.says))
+  unfolding numbers_by exceeds_limit
   numbers_agree x den is each =
       let all : fold common (unsigned_abs c.den) (x.before ++ numbers x.says) ≡ fold common den (numbers x.says) =
       total-append x.before (numbers x.says) ∙ ap (λ (d : ℕ). fold common d (numbers x.says)) (sym is.is) in
@@ -95,7 +95,7 @@ module _ (c : Controller) where
       pub means : meant c.states s w.cond ≡ Some x.0
       pub total : IsTotal (before ++ condition_numbers w.cond) x.1
 
-    abbrev said : List Num → Saying → Statement
+    abbrev said : List Num → LineContent → Statement
     said before x = record { says = x; before = before }
 
     line_agrees : (w : Wanted) (before : List Num) (den : ℕ) → IsAsked w.cond → IsTotal before den
@@ -110,7 +110,7 @@ module _ (c : Controller) where
     path_agrees : (ns : List Num) (line : ℕ) (before : List Num) (den : ℕ) → All IsNum ns → IsTotal before den
         → Agrees (λ next. IsTotal (before ++ ns) next) (numbers_by line ns den) (judged c s (said before (path ns line)))
     unfolding judged
-    path_agrees ns line before den each is = by (against (passes_limit c (said before (path ns line))) 14 line) (numbers_agree (said before (path ns line)) den is each)
+    path_agrees ns line before den each is = by (against (exceeds_limit c (said before (path ns line))) 14 line) (numbers_agree (said before (path ns line)) den is each)
       where
         by : (t : Result (Unit {0}) Refusal) → Agrees (λ next. IsTotal (before ++ ns) next) (numbers_by line ns den) t
             → Agrees (λ next. IsTotal (before ++ ns) next) (numbers_by line ns den) t
@@ -143,7 +143,7 @@ module _ (c : Controller) where
     unfolding each_found
     found_more w ws x xs one others = ap (λ (o : Option Condition). in_front o (each_found (meant c.states s) (conds ws))) one ∙ ap (in_front (Some x)) others
 
-    lines_agree : {Y : Type 0} (P : Y → Type 0) (ws : List Wanted) (rest : List Saying) (k : List Condition × ℕ → Result Y Refusal) (before : List Num) (den : ℕ)
+    lines_agree : {Y : Type 0} (P : Y → Type 0) (ws : List Wanted) (rest : List LineContent) (k : List Condition × ℕ → Result Y Refusal) (before : List Num) (den : ℕ)
         → EachAskedWanted ws → IsTotal before den
         → ((x : List Condition × ℕ) → AreLines ws before x → Agrees P (k x) (first (judged c s) (placed (before ++ all_numbers ws) rest)))
         → Agrees P (wanteds_by c.states s ws den >>= k) (first (judged c s) (placed before (map wanted_saying ws ++ rest)))

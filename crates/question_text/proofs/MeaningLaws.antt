@@ -18,8 +18,8 @@ use Rattle.ctrl_types.specs.declared.controllers.Kind.TheVariants.{Amount, Count
 use Rattle.ctrl_types.specs.declared.controllers.State.{State}
 use Rattle.question_text.specs.Conditions as trees
 use Rattle.question_text.specs.Conditions.{Condition}
-use Rattle.question_text.specs.Naming.{each_found, in_front, lin_meant, lin_of_terms, of_written, term_meant}
-use Rattle.question_text.specs.Resolving.{compared, joined, kind_of, meant, mixed_sides, names_kind, unknown_sides}
+use Rattle.question_text.specs.NamedValues.{each_found, in_front, lin_meant, lin_of_terms, of_written, term_meant}
+use Rattle.question_text.specs.StatementRules.{compared, joined, kind_of, meant, mixed_sides, names_kind, unknown_sides}
 use Rattle.question_text.specs.Resolution.{lin_has, lins_mix, mixes}
 use Rattle.question_text.specs.declared.conditions.Of.{Of}
 use Rattle.question_text.specs.declared.conditions.QTerm.{QTerm}

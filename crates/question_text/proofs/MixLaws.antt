@@ -6,7 +6,7 @@ use Rattle.ctrl_types.specs.Names.{HaveTwoKinds}
 use Rattle.ctrl_types.specs.declared.controllers.State.{State}
 use Rattle.ctrl_types.proofs.KindLaws.{of_sides, two_again, two_kinds}
 use Rattle.std.specs.Prelude.{List}
-use Rattle.question_text.specs.Resolving.{kind_in, mixed_sides, names_kind}
+use Rattle.question_text.specs.StatementRules.{kind_in, mixed_sides, names_kind}
 
 pub mixed_are : (states : List State) (s : Setting) (left right : Expr) → mixed_sides states s left right ≡ true → HaveTwoKinds (kind_in states s) (left.terms ++ right.terms)
 unfolding mixed_sides names_kind

@@ -12,7 +12,7 @@ use Rattle.question_text.specs.declared.conditions.Of.{Of}
 use Rattle.question_text.specs.declared.conditions.Of.TheVariants.{Credit, W, X}
 use Rattle.question_text.specs.declared.names.Count.{Count}
 use Rattle.question_text.specs.declared.names.Count.TheVariants.{Arrived, Served, Lost}
-use Rattle.question_text.specs.Naming.{IsFlow, IsStateWord, StandsFor, credit, waste, all_counted, counted, only_state, own_state, count_named, count_of, count_or_state, credit_of, entry_of, flow_in, flow_or_all, flow_or_only, of_named, state_named, state_value_of, step_in, waste_of}
+use Rattle.question_text.specs.NamedValues.{IsFlow, IsStateWord, StandsFor, credit, waste, all_counted, counted, only_state, own_state, count_named, count_of, count_or_state, credit_of, entry_of, flow_in, flow_or_all, flow_or_only, of_named, state_named, state_value_of, step_in, waste_of}
 
 -- ---- options
 

@@ -25,8 +25,8 @@ use Rattle.question_syntax.specs.Sections.{Sections, Wanted, SameButLines, wante
 use Rattle.question_syntax.proofs.ConditionLimits.{question_within}
 use Rattle.question_syntax.proofs.Texts.{lines_printed}
 use Rattle.question_text.specs.Conditions.{Condition}
-use Rattle.question_text.specs.Naming.{each_found, in_front}
-use Rattle.question_text.specs.Resolving.{SeenQuestion, against, buffer_numbers, meant, number_of}
+use Rattle.question_text.specs.NamedValues.{each_found, in_front}
+use Rattle.question_text.specs.StatementRules.{SeenQuestion, against, buffer_numbers, meant, number_of}
 use Rattle.question_text.specs.Resolution.{mixes, numbers_by, resolved_by, wanted, wanted_by, wanteds_by}
 use Rattle.question_text.specs.Texts.{HasText, IsTextOf, sections_written, wanted_written}
 use Rattle.question_text.proofs.CanonLaws.{canon, canon_short, condition_is_written, means_same}

@@ -24,7 +24,7 @@ use Rattle.question_text.specs.Conditions.{Comparison, Condition, Sides, compare
 use Rattle.question_text.specs.Expressions.{condition_claim}
 use Rattle.question_text.specs.Limits.{IsName, IsTerm}
 use Rattle.question_text.specs.Meaning.{HoldsIn, Violates}
-use Rattle.question_text.specs.Names.{row_at}
+use Rattle.question_text.specs.NameMeanings.{row_at}
 use Rattle.question_text.specs.Violation.{rows_of}
 use Rattle.question_text.specs.declared.names.Rows.{Rows}
 use Rattle.question_text.specs.declared.conditions.Of.{Of}

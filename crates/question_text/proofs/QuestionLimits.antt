@@ -26,8 +26,8 @@ use Rattle.question_syntax.specs.Sections.{Sections, Wanted}
 use Rattle.question_text.specs.Conditions.{Condition, condition_of, conjunction}
 use Rattle.question_text.specs.Expressions.{AreCleared, Divides, HasNum, scale_of_two}
 use Rattle.question_text.specs.Limits.{IsCondition, IsComparison, IsName, IsQuestion, IsTerm}
-use Rattle.question_text.specs.Naming.{StandsFor, credit, waste, all_counted, counted, only_state, own_state, each_found, entry_of, has_name, in_front, of_written, state_named}
-use Rattle.question_text.specs.Resolving.{SeenQuestion, meant, question_seen}
+use Rattle.question_text.specs.NamedValues.{StandsFor, credit, waste, all_counted, counted, only_state, own_state, each_found, entry_of, has_name, in_front, of_written, state_named}
+use Rattle.question_text.specs.StatementRules.{SeenQuestion, meant, question_seen}
 use Rattle.question_text.specs.declared.conditions.Of.{Of}
 use Rattle.question_text.specs.declared.conditions.Of.TheVariants.{One}
 use Rattle.question_text.specs.declared.conditions.QLin.{QLin}
@@ -43,13 +43,13 @@ use Rattle.question_text.proofs.Scales.{least_scale}
 
 -- ---- places
 
--- an element that passes a test, with its place behind i others
+-- an element that meets a test, with its place behind i others
 pub record AtPlace {X : Type 0} (test : X → Bool) (i : ℕ) (xs : List X) (k : ℕ) : Type 0 where
   pub place : ℕ
   pub at : k ≡ i + place
   pub value : X
   pub is : slice_get xs place ≡ Some value
-  pub passes : test value ≡ true
+  pub meets : test value ≡ true
 
 pub placed_at : {X : Type 0} (test : X → Bool) (i : ℕ) (xs : List X) (k : ℕ) → position_from test i xs ≡ Some k → AtPlace test i xs k
 placed_at test i [] k e = absurd (cc)
@@ -57,11 +57,11 @@ placed_at test i (x ∷ xs) k e = by (test x) refl e (λ rest. placed_at test (i
   where
     by : (t : Bool) → test x ≡ t → cond t (Some i) (position_from test (i + 1) xs) ≡ Some k
         → (position_from test (i + 1) xs ≡ Some k → AtPlace test (i + 1) xs k) → AtPlace test i (x ∷ xs) k
-    by true p q rest = let same : i ≡ k = cc in record { place = 0; at = omega arith; value = x; is = refl; passes = p }
+    by true p q rest = let same : i ≡ k = cc in record { place = 0; at = omega arith; value = x; is = refl; meets = p }
     by false p q rest =
         let later = rest q in
         let at = later.at in
-        record { place = suc later.place; at = omega arith; value = later.value; is = later.is; passes = later.passes }
+        record { place = suc later.place; at = omega arith; value = later.value; is = later.is; meets = later.meets }
 
 pub named_at : (states : List State) (w : List ℕ) (j : ℕ) → state_named states w ≡ Some j → AtPlace (has_name w) 0 states j
 unfolding state_named

@@ -11,7 +11,7 @@ use Rattle.condition_tree.proofs.Trees.{each_leaf_gives}
 use Rattle.question_text.specs.Conditions.{Condition, Comparison, Sides, compares, condition_of}
 use Rattle.question_text.specs.Expressions.{CanCompare, CanTake, CanWeigh}
 use Rattle.question_text.specs.Limits.{CanAsk, IsComparison, IsCondition, IsName, IsTerm}
-use Rattle.question_text.specs.Names.{IsOf, row_at}
+use Rattle.question_text.specs.NameMeanings.{IsOf, row_at}
 use Rattle.question_text.specs.Violation.{assumptions, rows_of}
 use Rattle.question_text.specs.declared.names.Rows.{Rows}
 use Rattle.question_text.specs.declared.conditions.Of.{Of}

@@ -13,7 +13,7 @@ use Rattle.claim_values.proofs.ValueLaws.{number_scaled, stands_means}
 use Rattle.question_text.specs.Conditions.{compares}
 use Rattle.question_text.specs.Expressions.{AreCleared, Divides, HasNum, scale_of_two}
 use Rattle.question_text.specs.Meaning.{ComparisonHolds, value}
-use Rattle.question_text.specs.Names.{amount}
+use Rattle.question_text.specs.NameMeanings.{amount}
 use Rattle.question_text.specs.declared.conditions.QLin.{QLin}
 use Rattle.question_text.specs.declared.conditions.QTerm.{QTerm}
 use Rattle.question_text.specs.declared.names.Rows.{Rows}

@@ -17,9 +17,6 @@ use Rattle.question_text.specs.declared.conditions.QTerm.{QTerm}
 use Rattle.question_text.specs.declared.conditions.QLin.{QLin}
 use Rattle.question_text.specs.Expressions.{AreCleared, CanTake, HasNum, IsLeastScale, scale_of_two, scale_with}
 
-pub numbers_of : (r : Run) (at : Rows) (ts : List QTerm) → All (CanTake r at) ts → All HasNum ts
-numbers_of r at ts each = λ k d inside. (each k d inside).coef_in
-
 abbrev pub coef_of : QTerm → Num
 coef_of t = t.coef
 

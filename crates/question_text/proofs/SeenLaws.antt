@@ -17,8 +17,8 @@ use Rattle.ctrl_types.specs.declared.controllers.State.{State}
 use Rattle.question_syntax.specs.Sections.{Sections, Wanted}
 use Rattle.question_text.specs.Conditions.{conjunction}
 use Rattle.question_text.specs.Expressions.{condition_claim}
-use Rattle.question_text.specs.Naming.{each_found}
-use Rattle.question_text.specs.Resolving.{IsFirstBroken, IsUnbroken, Resolves, SeenQuestion, Statement, judged, meant, passes_limit, question_seen, statements}
+use Rattle.question_text.specs.NamedValues.{each_found}
+use Rattle.question_text.specs.StatementRules.{IsFirstBroken, IsUnbroken, Resolves, SeenQuestion, Statement, judged, meant, exceeds_limit, question_seen, statements}
 use Rattle.question_text.specs.Texts.{BreaksFirst, IsRefused, IsTextOf}
 use Rattle.question_text.specs.Violation.{rows_of, violation}
 use Rattle.question_text.specs.declared.conditions.QCond.TheVariants.{True}
@@ -69,7 +69,7 @@ module _ (c d : Controller) (same : controller_seen c ≡ controller_seen d) whe
   states_same = ap (λ (x : SeenController). x.states) same
 
   judged_same : judged c ≡ judged d
-  unfolding judged passes_limit
+  unfolding judged exceeds_limit
   judged_same = ap judged_by same
 
   pub text_same : (bytes : List ℕ) (q : SeenQuestion) → IsTextOf c bytes q → IsTextOf d bytes q
@@ -80,7 +80,7 @@ module _ (c d : Controller) (same : controller_seen c ≡ controller_seen d) whe
 
 -- without its rules a controller judges the same
 pub judged_unruled : (c : Controller) → judged c ≡ judged (record { states = c.states; rules = []; window = c.window; rate = c.rate; delay_max = c.delay_max; den = c.den })
-unfolding judged passes_limit
+unfolding judged exceeds_limit
 judged_unruled c = refl
 
 -- ---- questions

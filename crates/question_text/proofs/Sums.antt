@@ -10,15 +10,7 @@ use Rattle.path_server.proofs.Flows.{weighed-append}
 use Rattle.question_text.specs.declared.names.Rows.{Rows}
 use Rattle.question_text.specs.declared.conditions.QLin.{QLin}
 use Rattle.question_text.specs.Expressions.{comparison_terms, lin_terms, scale_of_two}
-use Rattle.question_text.specs.Names.{flow_terms}
-
-pub terms_of_all : (k : ℤ) (entry : ℕ → ℤ) (n flow : ℕ) → flow ≡ 0 → each_flow (λ f. times k (entry f) ∷ []) n ≡ flow_terms times k entry n flow
-terms_of_all k entry n zero is = refl
-terms_of_all k entry n (suc f) is = absurd (omega (arith, is))
-
-pub terms_of_one : (k : ℤ) (entry : ℕ → ℤ) (n flow : ℕ) → 1 ≤ flow → times k (entry flow) ∷ [] ≡ flow_terms times k entry n flow
-terms_of_one k entry n zero is = absurd (omega (arith, is))
-terms_of_one k entry n (suc f) is = refl
+use Rattle.question_text.specs.NameMeanings.{flow_terms}
 
 -- the two sides of a comparison, one after the other
 pub sides : (r : Run) (at : Rows) (left right : QLin) (w0 w1 w2 : Weight) (scale : ℕ)

@@ -9,7 +9,7 @@ use Rattle.question_syntax.proofs.ConditionLimits.{question_within}
 use Rattle.question_syntax.specs.Sections.{Sections}
 use Rattle.question_syntax.proofs.Exactness as syntax
 use Rattle.question_text.specs.Resolution.{resolved_by}
-use Rattle.question_text.specs.Resolving.{IsFirstBroken, IsUnbroken, Resolves, SeenQuestion, judged, statements}
+use Rattle.question_text.specs.StatementRules.{IsFirstBroken, IsUnbroken, Resolves, SeenQuestion, judged, statements}
 use Rattle.question_text.specs.Texts.{IsRefused, IsTextOf}
 use Rattle.weighing.proofs.Events.{all_passed, first_is}
 use Rattle.question_text.proofs.TextLaws.{broken, controller_scale, given, not_stopped, same_question, stopped_same}

@@ -10,11 +10,11 @@ use Rattle.whole.specs.declared.answers.Refusal.{Refusal}
 use Rattle.weighing.specs.First.{first}
 use Rattle.weighing.proofs.Events.{all_passed, each_passed, first_is, first_is_first}
 use Rattle.path_server.specs.declared.settings.Setting.{Setting}
-use Rattle.ctrl_syntax.specs.Seen.{GivesSeenUnless}
+use Rattle.ctrl_syntax.specs.Views.{GivesSeenUnless}
 use Rattle.ctrl_types.specs.Denominators.{IsScale}
 use Rattle.ctrl_types.specs.Limits.{IsController}
 use Rattle.ctrl_types.specs.declared.controllers.Controller.{Controller}
-use Rattle.ctrl_types.proofs.Agreement.{Agrees, fine, stops}
+use Rattle.ctrl_types.proofs.EndAlike.{Agrees, fine, stops}
 use Rattle.question_syntax.specs.Grammar.{IsText}
 use Rattle.question_syntax.specs.Limits.{IsQuestion as IsQuestionText, IsWanted}
 use Rattle.question_syntax.specs.Refused as syntax
@@ -25,7 +25,7 @@ use Rattle.condition_syntax.specs.Trees as written
 use Rattle.question_syntax.proofs.Exactness.{one_text, not_both}
 use Rattle.question_syntax.proofs.ConditionLimits.{question_within}
 use Rattle.question_text.specs.Conditions.{Condition}
-use Rattle.question_text.specs.Resolving.{IsFirstBroken, IsUnbroken, Resolves, SeenQuestion, judged, question_seen, statements}
+use Rattle.question_text.specs.StatementRules.{IsFirstBroken, IsUnbroken, Resolves, SeenQuestion, judged, question_seen, statements}
 use Rattle.question_text.specs.Limits.{IsQuestion}
 use Rattle.question_text.specs.Resolution.{IsAsked, IsAskedText, resolved_by}
 use Rattle.question_text.specs.declared.questions.Question.{Question}

@@ -19,12 +19,12 @@ use Rattle.question_text.specs.declared.conditions.QCond.TheOpen.{QCond-F}
 use Rattle.question_text.specs.declared.conditions.QCond.TheFolds.{fold-roll-QCond}
 use Rattle.question_text.specs.declared.conditions.QCond.TheVariants.{And, Or, rolls-And, rolls-Or}
 use Rattle.question_text.specs.Conditions.{Condition, conjunction, disjunction, all_of, any_of, condition_of, condition_step}
-use Rattle.question_text.specs.Naming.{each_found, in_front, lin_meant, lin_of_terms, of_written, term_meant}
+use Rattle.question_text.specs.NamedValues.{each_found, in_front, lin_meant, lin_of_terms, of_written, term_meant}
 use Rattle.question_text.specs.declared.conditions.Of.{Of}
 use Rattle.question_text.specs.declared.conditions.QTerm.{QTerm}
 use Rattle.condition_syntax.specs.declared.expressions.ETerm.{ETerm}
 use Rattle.condition_syntax.specs.declared.expressions.Expr.{Expr}
-use Rattle.question_text.specs.Resolving.{joined, meant}
+use Rattle.question_text.specs.StatementRules.{joined, meant}
 use Rattle.question_text.specs.Resolution.{wanted}
 use Rattle.question_text.proofs.FoundLoop.{behind, goes_on, stops, ends}
 

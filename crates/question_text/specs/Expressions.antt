@@ -11,7 +11,7 @@ use Rattle.weighing.specs.declared.scales.Side.TheVariants.{Left, Right}
 use Rattle.weighing.specs.declared.weighings.Rel5.{Rel5}
 use Rattle.run_rows.specs.declared.rows.Run.{Run}
 use Rattle.question_text.specs.Conditions.{Condition, Comparison, compares, EachComparison}
-use Rattle.question_text.specs.Names.{IsOf, of_terms}
+use Rattle.question_text.specs.NameMeanings.{IsOf, of_terms}
 use Rattle.question_text.specs.declared.names.Rows.{Rows}
 use Rattle.question_text.specs.declared.conditions.QLin.{QLin}
 use Rattle.question_text.specs.declared.conditions.QTerm.{QTerm}

@@ -1,12 +1,12 @@
 pub mod Conditions
-pub mod Names
+pub mod NameMeanings
 pub mod Expressions
 pub mod Limits
 pub mod Violation
 pub mod Meaning
 pub mod Claims
 pub mod Example
-pub mod Naming
-pub mod Resolving
+pub mod NamedValues
+pub mod StatementRules
 pub mod Resolution
 pub mod Texts

@@ -5,13 +5,13 @@ use Rattle.std.specs.Prelude.{ℕ, ℤ, pos, ◌+ℤ◌, ◌*ℤ◌, List, [], �
 use Rattle.run_rows.specs.Runs.{flow_count}
 use Rattle.claims.specs.Subjects.{in_run}
 use Rattle.whole.specs.declared.answers.Stuck.{Stuck}
-use Rattle.weighing.specs.Passing.{IsFirstPassing as IsFirstPassingIn, NothingPasses as NothingPassesIn}
+use Rattle.weighing.specs.Overflow.{IsFirstOverflow as IsFirstOverflowIn, NothingOverflows as NothingOverflowsIn}
 use Rattle.run_rows.specs.declared.rows.Run.{Run}
 use Rattle.claim_values.specs.Values.{Compares, number}
 use Rattle.condition_tree.specs.Trees.{Truth}
 use Rattle.question_text.specs.Conditions.{Condition, Comparison, compares, condition_of}
 use Rattle.question_text.specs.Expressions.{scale_of_two}
-use Rattle.question_text.specs.Names.{amount}
+use Rattle.question_text.specs.NameMeanings.{amount}
 use Rattle.question_text.specs.Violation.{rows_of, violation_claim}
 use Rattle.question_text.specs.declared.names.Rows.{Rows}
 use Rattle.question_text.specs.declared.conditions.QCond.{QCond}
@@ -39,10 +39,10 @@ pub record Violates (q : Question) (r : Run) : Type 0 where
   pub assumed : All (HoldsIn q r) q.assumes
   pub broken : HoldsIn q r q.require → ⊥
 
--- no product and no sum passes, of the assumptions and of the requirement
-abbrev pub NothingPasses : Question → Run → Type 0
-NothingPasses q r = NothingPassesIn (violation_claim (in_run r) (flow_count r 0) (rows_of q r) q)
+-- no product and no sum overflows, of the assumptions and of the requirement
+abbrev pub NothingOverflows : Question → Run → Type 0
+NothingOverflows q r = NothingOverflowsIn (violation_claim (in_run r) (flow_count r 0) (rows_of q r) q)
 
--- the first product or sum that passes, of the comparisons of the assumptions and then of the requirement
-abbrev pub IsFirstPassing : Question → Run → Stuck → Type 0
-IsFirstPassing q r stuck = IsFirstPassingIn (rows_of q r).last (violation_claim (in_run r) (flow_count r 0) (rows_of q r) q) stuck
+-- the first product or sum that overflows, of the comparisons of the assumptions and then of the requirement
+abbrev pub IsFirstOverflow : Question → Run → Stuck → Type 0
+IsFirstOverflow q r stuck = IsFirstOverflowIn (rows_of q r).last (violation_claim (in_run r) (flow_count r 0) (rows_of q r) q) stuck

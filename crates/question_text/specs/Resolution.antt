@@ -21,7 +21,7 @@ use Rattle.question_syntax.specs.declared.syntax.ConditionLine.{ConditionLine}
 use Rattle.question_syntax.specs.declared.syntax.QuestionSyntax.{QuestionSyntax}
 use Rattle.condition_tree.specs.Trees.{folded, gathering}
 use Rattle.question_text.specs.Conditions.{Condition, Comparison, compares}
-use Rattle.question_text.specs.Resolving.{SeenQuestion, against, buffer_numbers, kind_of, meant, number_of}
+use Rattle.question_text.specs.StatementRules.{SeenQuestion, against, buffer_numbers, kind_of, meant, number_of}
 use Rattle.question_text.specs.declared.conditions.QLin.{QLin}
 use Rattle.question_text.specs.declared.conditions.QTerm.{QTerm}
 

@@ -12,8 +12,8 @@ use Rattle.question_syntax.specs.Grammar.{IsText}
 use Rattle.question_syntax.specs.Refused as syntax
 use Rattle.question_syntax.specs.Sections.{Sections, Wanted}
 use Rattle.question_text.specs.Conditions.{Condition, Comparison, compares}
-use Rattle.question_text.specs.Naming.{lin_written}
-use Rattle.question_text.specs.Resolving.{IsFirstBroken, IsUnbroken, Resolves, SeenQuestion}
+use Rattle.question_text.specs.NamedValues.{lin_written}
+use Rattle.question_text.specs.StatementRules.{IsFirstBroken, IsUnbroken, Resolves, SeenQuestion}
 
 -- the bytes are a text that breaks no rule, and this is its question for the controller
 pub record IsTextOf (c : Controller) (bytes : List ℕ) (q : SeenQuestion) : Type 0 where

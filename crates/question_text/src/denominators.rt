@@ -10,7 +10,7 @@ ghost use Rattle.question_text.specs.Resolution.{EachAsked, IsAsked};
 use ctrl_syntax::{Cond, Expr};
 use ctrl_types::with_number;
 
-/// The least common multiple with an expression's denominators, unless it passes the limit.
+/// The least common multiple with an expression's denominators, unless it exceeds the limit.
 fn with_expr(den: Option<u32>, expr: &Expr) -> Option<u32>
     requires den_in { IfSome den IsScale }
     requires expr_in { IsPlacedExpr expr.now }
@@ -35,7 +35,7 @@ fn with_comparison(den: Option<u32>, left: &Expr, right: &Expr) -> Option<u32>
     with_expr(with_expr(den, left), right)
 }
 
-/// The least common multiple with a condition's denominators, unless it passes the limit.
+/// The least common multiple with a condition's denominators, unless it exceeds the limit.
 #[cycle(denominators)]
 pub(crate) fn with_condition(den: Option<u32>, condition: &Cond) -> Option<u32>
     requires den_in { IfSome den IsScale }

@@ -13,7 +13,7 @@ use run_rows::Run;
 use weighing::{Rel5, Side, Weighing, with_denominator};
 use whole::Stuck;
 
-/// Whether the sides of a comparison stand so, or the first operation that passes in weighing it.
+/// Whether the sides of a comparison stand so, or the first operation that overflows in weighing it.
 pub fn comparison(left: &QLin, rel: Rel5, right: &QLin, run: &Run, at: &Rows) -> Result<bool, Stuck>
     requires run_in { IsRun run.now }
     requires can { CanCompare run.now at.now left.now right.now }

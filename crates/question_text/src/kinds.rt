@@ -3,14 +3,14 @@ ghost use Rattle.std.specs.Prelude.{◌≡◌, map};
 ghost use Rattle.std.specs.List.{list_any};
 ghost use Rattle.ctrl_types.specs.Names.{is_kind};
 ghost use Rattle.question_text.specs.Conditions.{condition_of};
-ghost use Rattle.question_text.specs.Resolving.{kind_of};
+ghost use Rattle.question_text.specs.StatementRules.{kind_of};
 ghost use Rattle.question_text.specs.Resolution.{lin_has, lins_mix, mixes};
 
 use crate::conditions::{Of, QCond, QLin};
 use ctrl_types::{Kind, State};
 
 /// The kind of what is measured; a constant has none.
-#[tactic(auto, unfolding(crate::specs::Resolving::kind_of))]
+#[tactic(auto, unfolding(crate::specs::StatementRules::kind_of))]
 fn kind_of(states: &[State], of: Of) -> Option<Kind>
     ensures { result ≡ kind_of states.now of }
 {

@@ -1,15 +1,15 @@
 //! What the lines of a question mean, one after another, or the first rule that one breaks.
 ghost use Rattle.std.specs.Prelude.{◌≡◌, ◌≤◌, length, map, unsigned_abs, All, IfOk, IfSome, Some, [], ◌∷◌};
-ghost use Rattle.condition_syntax.specs.Refusals.{GivesRead};
+ghost use Rattle.condition_syntax.specs.RefusalRules.{GivesRead};
 ghost use Rattle.condition_syntax.specs.Trees.{condition_of as written_of};
-ghost use Rattle.ctrl_syntax.specs.Seen.{GivesSeenUnless};
+ghost use Rattle.ctrl_syntax.specs.Views.{GivesSeenUnless};
 ghost use Rattle.ctrl_types.specs.Denominators.{IsScale, with_numbers};
 ghost use Rattle.ctrl_types.specs.Limits.{IsController};
 ghost use Rattle.ctrl_types.specs.Statements.{condition_numbers};
 ghost use Rattle.path_server.specs.Limits.{IsBuffer, IsNumber, IsSetting};
 ghost use Rattle.question_syntax.specs.Sections.{all_wanted_of, sections_of, wanted_of};
 ghost use Rattle.question_text.specs.Conditions.{condition_of};
-ghost use Rattle.question_text.specs.Resolving.{against, buffer_numbers, number_of, question_seen};
+ghost use Rattle.question_text.specs.StatementRules.{against, buffer_numbers, number_of, question_seen};
 ghost use Rattle.question_text.specs.Resolution.{IsAsked, IsAskedText, numbers_by, resolved_by, wanted, wanted_by, wanteds_by};
 
 use crate::conditions::QCond;
@@ -119,7 +119,7 @@ fn assumes(
 }
 
 /// The question that the syntax means, or the first line that breaks a rule.
-#[tactic(auto, using(whole::proofs::Passing::signed), unfolding(crate::specs::Resolution::resolved_by))]
+#[tactic(auto, using(whole::proofs::Overflow::signed), unfolding(crate::specs::Resolution::resolved_by))]
 pub(crate) fn resolved(
     alloc: Global,
     syntax: &QuestionSyntax,

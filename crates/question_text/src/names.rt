@@ -3,7 +3,7 @@ ghost use Rattle.std.specs.Prelude.{◌≡◌, ◌<◌, ◌≤◌, [], ◌∷◌
 ghost use Rattle.run_rows.specs.Runs.{IsEntry, IsRun, flow_count};
 ghost use Rattle.weighing.specs.Weighed.{times, weighed_from};
 ghost use Rattle.claims.specs.Subjects.{each_flow, in_run};
-ghost use Rattle.question_text.specs.Names.{IsOf, counted, flow_terms, of_terms, row_at};
+ghost use Rattle.question_text.specs.NameMeanings.{IsOf, counted, flow_terms, of_terms, row_at};
 
 use crate::conditions::Of;
 use run_rows::Run;
@@ -27,7 +27,7 @@ pub enum Count {
 }
 
 /// The weighing with a multiple of what a term is taken of.
-#[tactic(auto, using(whole::proofs::Passing::signed))]
+#[tactic(auto, using(whole::proofs::Overflow::signed))]
 pub fn plus_of(weighing: Weighing, run: &Run, at: &Rows, factor: i128, of: Of) -> Weighing
     requires run_in { IsRun run.now }
     requires of_in { IsOf run.now at.now of }
@@ -67,7 +67,7 @@ fn row_of_step(run: &Run, at: &Rows, step: u32) -> u32
 }
 
 /// The weighing with a multiple of what a flow has on a row or, for flow 0, of what each has.
-#[tactic(auto, using(whole::proofs::Passing::signed))]
+#[tactic(auto, using(whole::proofs::Overflow::signed))]
 fn plus_count(
     start: Weighing,
     run: &Run,
@@ -89,7 +89,7 @@ fn plus_count(
 }
 
 /// The weighing with a multiple of what each flow has on a row.
-#[tactic(auto, using(whole::proofs::Passing::signed))]
+#[tactic(auto, using(whole::proofs::Overflow::signed))]
 fn plus_each(start: Weighing, run: &Run, row: u32, count: Count, factor: i128) -> Weighing
     requires run_in { IsRun run.now }
     requires row_in { row < length run.now.rows }

@@ -1,6 +1,6 @@
 //! What the names of a question's text stand for, and how that is named canonically.
 ghost use Rattle.std.specs.Prelude.{◌≡◌, ◌≤◌, length};
-ghost use Rattle.question_text.specs.Naming.{count_named, count_of, credit_of, entry_of, flow_in, flow_or_all, flow_or_only, of_named, of_written, state_named, state_value_of, step_in, waste_of};
+ghost use Rattle.question_text.specs.NamedValues.{count_named, count_of, credit_of, entry_of, flow_in, flow_or_all, flow_or_only, of_named, of_written, state_named, state_value_of, step_in, waste_of};
 
 use crate::conditions::Of;
 use crate::names::Count;
@@ -9,7 +9,7 @@ use ctrl_types::State;
 use path_server::Setting;
 
 /// The number of the state with this name.
-#[tactic(auto, unfolding(crate::specs::Naming::state_named))]
+#[tactic(auto, unfolding(crate::specs::NamedValues::state_named))]
 fn state_named(states: &[State], word: &[u8]) -> Option<u32>
     requires { length states.now ≤ 8 }
     ensures { result ≡ state_named states.now word.now }
@@ -22,7 +22,7 @@ fn state_named(states: &[State], word: &[u8]) -> Option<u32>
     None
 }
 
-#[tactic(auto, unfolding(crate::specs::Naming::count_named))]
+#[tactic(auto, unfolding(crate::specs::NamedValues::count_named))]
 fn count_named(word: &[u8]) -> Option<Count>
     ensures { result ≡ count_named word.now }
 {
@@ -37,7 +37,7 @@ fn count_named(word: &[u8]) -> Option<Count>
     }
 }
 
-#[tactic(auto, unfolding(crate::specs::Naming::step_in))]
+#[tactic(auto, unfolding(crate::specs::NamedValues::step_in))]
 fn step_in(setting: &Setting, step: Option<u32>) -> Option<u32>
     ensures { result ≡ step_in setting.now step }
 {
@@ -64,7 +64,7 @@ fn flow_in(setting: &Setting, flow: u32) -> Option<u32>
 }
 
 /// The flow that is written, or 0 for the sum over all flows.
-#[tactic(auto, unfolding(crate::specs::Naming::flow_or_all))]
+#[tactic(auto, unfolding(crate::specs::NamedValues::flow_or_all))]
 fn flow_or_all(setting: &Setting, flow: Option<u32>) -> Option<u32>
     ensures { result ≡ flow_or_all setting.now flow }
 {
@@ -75,7 +75,7 @@ fn flow_or_all(setting: &Setting, flow: Option<u32>) -> Option<u32>
 }
 
 /// The flow that is written, or the only one.
-#[tactic(auto, unfolding(crate::specs::Naming::flow_or_only))]
+#[tactic(auto, unfolding(crate::specs::NamedValues::flow_or_only))]
 fn flow_or_only(setting: &Setting, flow: Option<u32>) -> Option<u32>
     ensures { result ≡ flow_or_only setting.now flow }
 {
@@ -96,7 +96,7 @@ fn entry_of(count: Count, flow: u32, step: u32) -> Of
 }
 
 /// The credit, which has neither flow nor step.
-#[tactic(auto, unfolding(crate::specs::Naming::credit_of))]
+#[tactic(auto, unfolding(crate::specs::NamedValues::credit_of))]
 fn credit_of(name: &Name) -> Option<Of>
     ensures { result ≡ credit_of name.now }
 {
@@ -108,7 +108,7 @@ fn credit_of(name: &Name) -> Option<Of>
 }
 
 /// The waste, which has no flow.
-#[tactic(auto, unfolding(crate::specs::Naming::waste_of))]
+#[tactic(auto, unfolding(crate::specs::NamedValues::waste_of))]
 fn waste_of(setting: &Setting, name: &Name) -> Option<Of>
     ensures { result ≡ waste_of setting.now name.now }
 {
@@ -119,7 +119,7 @@ fn waste_of(setting: &Setting, name: &Name) -> Option<Of>
     Some(Of::W(step))
 }
 
-#[tactic(auto, unfolding(crate::specs::Naming::count_of))]
+#[tactic(auto, unfolding(crate::specs::NamedValues::count_of))]
 fn count_of(setting: &Setting, count: Count, name: &Name) -> Option<Of>
     ensures { result ≡ count_of setting.now count name.now }
 {
@@ -128,7 +128,7 @@ fn count_of(setting: &Setting, count: Count, name: &Name) -> Option<Of>
     Some(entry_of(count, flow, step))
 }
 
-#[tactic(auto, unfolding(crate::specs::Naming::state_value_of))]
+#[tactic(auto, unfolding(crate::specs::NamedValues::state_value_of))]
 fn state_value_of(states: &[State], setting: &Setting, name: &Name) -> Option<Of>
     requires { length states.now ≤ 8 }
     ensures { result ≡ state_value_of states.now setting.now name.now }
@@ -140,7 +140,7 @@ fn state_value_of(states: &[State], setting: &Setting, name: &Name) -> Option<Of
 }
 
 /// What a name stands for; None where it is unknown.
-#[tactic(auto, unfolding(crate::specs::Naming::of_named))]
+#[tactic(auto, unfolding(crate::specs::NamedValues::of_named))]
 fn of_named(states: &[State], setting: &Setting, name: &Name) -> Option<Of>
     requires { length states.now ≤ 8 }
     ensures { result ≡ of_named states.now setting.now name.now }
@@ -159,7 +159,7 @@ fn of_named(states: &[State], setting: &Setting, name: &Name) -> Option<Of>
 }
 
 /// What a term is a multiple of; None where its name is unknown.
-#[tactic(auto, unfolding(crate::specs::Naming::of_written))]
+#[tactic(auto, unfolding(crate::specs::NamedValues::of_written))]
 pub(crate) fn of_written(states: &[State], setting: &Setting, name: &Option<Name>) -> Option<Of>
     requires { length states.now ≤ 8 }
     ensures { result ≡ of_written states.now setting.now name.now }

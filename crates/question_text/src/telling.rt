@@ -12,8 +12,8 @@ ghost use Rattle.weighing.specs.Scaled.{IsNum};
 ghost use Rattle.question_text.specs.declared.conditions.Of.{Of};
 ghost use Rattle.question_text.specs.declared.conditions.QLin.{QLin};
 ghost use Rattle.question_text.specs.Expressions.{HasNum, IsLeastScale, scale_of_two};
-ghost use Rattle.question_text.specs.Naming.{StandsFor, of_named};
-ghost use Rattle.question_text.specs.Resolving.{IsLineScale, SeenQuestion, Statement, kind_in, line_scale, mixed_sides, numbers};
+ghost use Rattle.question_text.specs.NamedValues.{StandsFor, of_named};
+ghost use Rattle.question_text.specs.StatementRules.{IsLineScale, SeenQuestion, Statement, kind_in, line_scale, mixed_sides, numbers};
 ghost use Rattle.question_text.specs.Texts.{IsRefused, IsTextOf};
 
 /// A question's text says one thing alone for a controller, or it has one first broken rule alone; and one of the

@@ -11,7 +11,7 @@ use std::alloc::{AllocError, Global};
 use std::test::Fail;
 use whole::{Op, Pair, Place, Stuck};
 
-#[tactic(auto, using(whole::proofs::Passing::signed))]
+#[tactic(auto, using(whole::proofs::Overflow::signed))]
 fn single(alloc: Global, num: i128, of: Of) -> Result<QLin, AllocError>
     ensures { IfOk result (λ lin. lin ≡ example.single num of) }
 {
@@ -99,7 +99,7 @@ fn a_run_violates_where_the_assumption_holds_and_the_requirement_does_not(
 }
 
 #[test]
-fn a_product_that_passes_is_named(rt: HostRuntime) -> Result<(), Fail> {
+fn a_product_that_overflows_is_named(rt: HostRuntime) -> Result<(), Fail> {
     let over = 1 << 126;
     let stuck = Stuck {
         place: Place::Replay,

@@ -1,7 +1,7 @@
 //! Questions' texts for a controller, one for each way to break a rule, and the canonical text.
 ghost use Rattle.std.specs.Prelude.{◌<◌, ◌^◌, ◌-◌, length, IfOk};
 ghost use Rattle.ctrl_types.specs.Limits.{IsController};
-ghost use Rattle.question_text.specs.Resolving.{question_seen};
+ghost use Rattle.question_text.specs.StatementRules.{question_seen};
 ghost use Rattle.question_text.specs.Texts.{IsTextOf};
 
 use crate::{print, read};

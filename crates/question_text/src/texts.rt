@@ -1,11 +1,11 @@
 //! The text of a question for a controller.
 ghost use Rattle.std.specs.Prelude.{◌≡◌, ◌^◌, ◌<◌, ◌-◌, ℕ, List, length, IfOk, IsErrOf, Ok, Err};
 ghost use Rattle.whole.specs.declared.answers.Refusal.{Refusal};
-ghost use Rattle.ctrl_syntax.specs.Seen.{GivesSeenUnless};
+ghost use Rattle.ctrl_syntax.specs.Views.{GivesSeenUnless};
 ghost use Rattle.ctrl_types.specs.Limits.{IsController};
 ghost use Rattle.question_syntax.specs.Printed.{printed};
 ghost use Rattle.question_text.specs.Limits.{IsQuestion};
-ghost use Rattle.question_text.specs.Resolving.{SeenQuestion, question_seen};
+ghost use Rattle.question_text.specs.StatementRules.{SeenQuestion, question_seen};
 ghost use Rattle.question_text.specs.Texts.{HasText, IsRefused, IsTextOf, sections_written};
 
 use crate::lines::resolved;

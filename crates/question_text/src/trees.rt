@@ -1,10 +1,10 @@
 //! Conditions with their names replaced.
 ghost use Rattle.std.specs.Prelude.{◌≡◌, ◌≤◌, length, map};
 ghost use Rattle.condition_syntax.specs.Trees as written;
-ghost use Rattle.ctrl_syntax.specs.Seen.{GivesSeenUnless};
+ghost use Rattle.ctrl_syntax.specs.Views.{GivesSeenUnless};
 ghost use Rattle.question_text.specs.Conditions.{condition_of};
-ghost use Rattle.question_text.specs.Naming.{each_found, lin_meant};
-ghost use Rattle.question_text.specs.Resolving.{meant};
+ghost use Rattle.question_text.specs.NamedValues.{each_found, lin_meant};
+ghost use Rattle.question_text.specs.StatementRules.{meant};
 ghost use Rattle.question_text.specs.Resolution.{wanted};
 
 use crate::conditions::{QCond, QLin, QTerm};
@@ -43,7 +43,7 @@ fn lin(
 }
 
 /// The comparison with its names replaced.
-#[tactic(auto, unfolding(crate::specs::Resolving::meant))]
+#[tactic(auto, unfolding(crate::specs::StatementRules::meant))]
 fn comparison(
     alloc: Global,
     states: &[State],
@@ -63,7 +63,7 @@ fn comparison(
 
 /// The condition with its names replaced.
 #[cycle(resolved)]
-#[tactic(auto, unfolding(crate::specs::Resolving::meant))]
+#[tactic(auto, unfolding(crate::specs::StatementRules::meant))]
 pub(crate) fn condition(
     alloc: Global,
     states: &[State],

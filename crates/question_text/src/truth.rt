@@ -13,7 +13,7 @@ use run_rows::Run;
 use weighing::{both, either, not};
 use whole::Stuck;
 
-/// Whether the condition holds, or the first operation that passes in weighing it.
+/// Whether the condition holds, or the first operation that overflows in weighing it.
 #[cycle(conditions)]
 pub fn holds(condition: &QCond, run: &Run, at: &Rows) -> Result<bool, Stuck>
     requires run_in { IsRun run.now }

@@ -6,7 +6,7 @@ ghost use Rattle.weighing.specs.Claim.{outcome};
 ghost use Rattle.whole.specs.declared.answers.Stuck.{Stuck};
 ghost use Rattle.question_text.specs.Expressions.{CanWeigh, condition_claim};
 ghost use Rattle.question_text.specs.Limits.{CanAsk};
-ghost use Rattle.question_text.specs.Meaning.{IsFirstPassing, NothingPasses, Violates};
+ghost use Rattle.question_text.specs.Meaning.{IsFirstOverflow, NothingOverflows, Violates};
 ghost use Rattle.question_text.specs.Violation.{assumptions, violation};
 
 use crate::names::Rows;
@@ -17,14 +17,14 @@ use weighing::{both, not};
 use whole::Stuck;
 
 /// Whether the run violates the question: every assumption holds, and the requirement doesn't. `Err` comes exactly where
-/// a weighing passes 128 bits, and is the first one: all comparisons of the assumptions in order, and then those of the
+/// a weighing overflows 128 bits, and is the first one: all comparisons of the assumptions in order, and then those of the
 /// requirement, are weighed before any truth is taken. It takes no memory.
 pub fn violates(question: &Question, run: &Run) -> Result<bool, Stuck>
     requires { CanAsk question.now run.now }
     ensures exact { result ≡ violation question.now run.now }
-    ensures violated { (result ≡ Ok true) ↔ (NothingPasses question.now run.now × Violates question.now run.now) }
-    ensures kept { (result ≡ Ok false) ↔ (NothingPasses question.now run.now × (Violates question.now run.now → ⊥)) }
-    ensures stuck { (stuck : Stuck) → (result ≡ Err stuck) ↔ IsFirstPassing question.now run.now stuck }
+    ensures violated { (result ≡ Ok true) ↔ (NothingOverflows question.now run.now × Violates question.now run.now) }
+    ensures kept { (result ≡ Ok false) ↔ (NothingOverflows question.now run.now × (Violates question.now run.now → ⊥)) }
+    ensures stuck { (stuck : Stuck) → (result ≡ Err stuck) ↔ IsFirstOverflow question.now run.now stuck }
 
     // A run that violates the question is never found to keep it, nor the other way round.
     ensures violated_found { Violates question.now run.now → (result ≡ Ok true) ⊎ ((stuck : Stuck) × (result ≡ Err stuck)) }

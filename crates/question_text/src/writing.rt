@@ -3,8 +3,8 @@ ghost use Rattle.std.specs.Prelude.{◌≡◌, IfOk, map};
 ghost use Rattle.condition_syntax.specs.Trees.{condition_of as written_of};
 ghost use Rattle.question_syntax.specs.Sections.{all_wanted_of, sections_of, wanted_of};
 ghost use Rattle.question_text.specs.Conditions.{condition_of};
-ghost use Rattle.question_text.specs.Naming.{flow_written, lin_written, name_of, own_flow_written, state_text, term_written};
-ghost use Rattle.question_text.specs.Resolving.{question_seen};
+ghost use Rattle.question_text.specs.NamedValues.{flow_written, lin_written, name_of, own_flow_written, state_text, term_written};
+ghost use Rattle.question_text.specs.StatementRules.{question_seen};
 ghost use Rattle.question_text.specs.Texts.{condition_written, sections_written, wanted_written};
 
 use crate::conditions::{Of, QCond, QLin, QTerm};
@@ -40,7 +40,7 @@ fn flow_written(flow: u32) -> Option<u32>
 }
 
 /// The flow of a state as it is written; an only flow isn't.
-#[tactic(auto, unfolding(crate::specs::Naming::own_flow_written))]
+#[tactic(auto, unfolding(crate::specs::NamedValues::own_flow_written))]
 fn own_flow_written(setting: &Setting, flow: u32) -> Option<u32>
     ensures { result ≡ own_flow_written setting.now flow }
 {
@@ -48,7 +48,7 @@ fn own_flow_written(setting: &Setting, flow: u32) -> Option<u32>
 }
 
 /// The name of a state.
-#[tactic(auto, unfolding(crate::specs::Naming::state_text))]
+#[tactic(auto, unfolding(crate::specs::NamedValues::state_text))]
 fn state_text(states: &[State], number: u32) -> &[u8]
     ensures { result.now ≡ state_text states.now number }
 {
@@ -59,7 +59,7 @@ fn state_text(states: &[State], number: u32) -> &[u8]
 }
 
 /// The canonical name of what a term is a multiple of; a constant has none.
-#[tactic(auto, unfolding(crate::specs::Naming::name_of))]
+#[tactic(auto, unfolding(crate::specs::NamedValues::name_of))]
 fn name_of(
     alloc: Global,
     states: &[State],
@@ -83,7 +83,7 @@ fn name_of(
     Ok(Some(name))
 }
 
-#[tactic(auto, unfolding(crate::specs::Naming::term_written))]
+#[tactic(auto, unfolding(crate::specs::NamedValues::term_written))]
 fn term(
     alloc: Global,
     states: &[State],
@@ -99,7 +99,7 @@ fn term(
 }
 
 /// The expression with canonical names.
-#[tactic(auto, unfolding(crate::specs::Naming::lin_written))]
+#[tactic(auto, unfolding(crate::specs::NamedValues::lin_written))]
 fn lin(alloc: Global, states: &[State], setting: &Setting, lin: &QLin) -> Result<Expr, AllocError>
     ensures { IfOk result (λ expr. expr ≡ lin_written states.now setting.now lin.now) }
 {

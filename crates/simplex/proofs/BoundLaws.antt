@@ -56,7 +56,7 @@ module _ (num den common n d : ℤ) (left : pos 1 ≤ℤ den) (right : pos 1 ≤
       ap (λ y. y *ℚ whole den) same ∙ rational-times_den num den left
 
   pub quotient_wide : (limit : ℕ) → QuotientExceeds limit (whole num) (whole den) → QuotientExceeds limit (whole n) (whole d)
-  quotient_wide limit w = record { quotient = w.quotient; divides = quotient_value w.quotient w.divides; passes = w.passes }
+  quotient_wide limit w = record { quotient = w.quotient; divides = quotient_value w.quotient w.divides; overflows = w.overflows }
 
   pub quotient_kept : (limit : ℕ) → (QuotientExceeds limit (whole num) (whole den) → ⊥) → QuotientExceeds limit (whole n) (whole d) → ⊥
-  quotient_kept limit kept w = kept (record { quotient = w.quotient; divides = quotient_reduced w.quotient w.divides; passes = w.passes })
+  quotient_kept limit kept w = kept (record { quotient = w.quotient; divides = quotient_reduced w.quotient w.divides; overflows = w.overflows })

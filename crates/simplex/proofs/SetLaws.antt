@@ -8,13 +8,13 @@ use Rattle.simplex.specs.declared.outcome.Bound.{Bound}
 use Rattle.simplex.specs.declared.outcome.Outcome.{Outcome}
 use Rattle.simplex.specs.declared.outcome.Outcome.TheVariants as outcome
 use Rattle.simplex.specs.Limits.{Held, limit_value}
-use Rattle.simplex.specs.Bounds.{IsLimitOf, Passes, AnswersBoundAtWork}
+use Rattle.simplex.specs.Bounds.{IsLimitOf, Overflows, AnswersBoundAtWork}
 use Rattle.simplex.specs.States.{State, limits_in, rest_of}
 use Rattle.simplex.specs.Assignments.{Assigned, state_of}
 use Rattle.simplex.specs.Settings.{SetsLimit}
 use Rattle.simplex.proofs.SettingLaws.{limits_in-append}
 
-module _ {F : Type 0} (most : ℕ) (value : F → ℚ) (a b : Assigned F) (h k : Held F) (l : Limit (Delta F)) (bound : Bound) (tag : ℕ) (ps : List (ℕ × ℕ)) (fits : Passes most bound → ⊥) (is_limit : IsLimitOf bound tag (limit_value value l)) where
+module _ {F : Type 0} (most : ℕ) (value : F → ℚ) (a b : Assigned F) (h k : Held F) (l : Limit (Delta F)) (bound : Bound) (tag : ℕ) (ps : List (ℕ × ℕ)) (fits : Overflows most bound → ⊥) (is_limit : IsLimitOf bound tag (limit_value value l)) where
   -- nothing changes but whether it rests
   same : (answer : Outcome F) → b ≡ a → k ≡ h → state_of b k ps (rest_of answer) ≡ state_of a h ps (rest_of answer)
   same answer e f = ap (λ x. state_of x k ps (rest_of answer)) e ∙ ap (λ x. state_of a x ps (rest_of answer)) f

@@ -34,9 +34,9 @@ pub record IsLimitOf (b : Bound) (name : ℕ) (l : Limit DeltaValue) : Type 0 wh
   pub number : l.at.real *ℚ whole b.den ≡ whole b.num
   pub strict : l.at.inf ≡ infinitesimal_of b
 
--- num / den passes the limit
-abbrev pub Passes : ℕ → Bound → Type 0
-Passes limit b = QuotientExceeds limit (whole b.num) (whole b.den)
+-- num / den exceeds the limit
+abbrev pub Overflows : ℕ → Bound → Type 0
+Overflows limit b = QuotientExceeds limit (whole b.num) (whole b.den)
 
 -- the product of num / 1 and 1 / den
 pub record IsBoundProduct (v : ℕ) (num den : ℤ) (stuck : Stuck) : Type 0 where
@@ -44,10 +44,10 @@ pub record IsBoundProduct (v : ℕ) (num den : ℤ) (stuck : Stuck) : Type 0 whe
   pub inverts : inverse *ℚ whole den ≡ whole (pos 1)
   pub operation : IsOperation AtBound v 0 Product (whole num) inverse stuck
 
--- that product, which passes
+-- that product, which overflows
 pub record IsStuckBound (limit : ℕ) (b : Bound) (stuck : Stuck) : Type 0 where
   pub operation : IsBoundProduct b.var b.num b.den stuck
-  pub passes : Passes limit b
+  pub overflows : Overflows limit b
 
 -- the values after the limit is put in force: a variable that isn't basic and is outside moves to it
 abbrev pub AreMovedInto : {F : Type 0} → (F → ℚ) → Corner F → Limit DeltaValue → (ℕ → DeltaValue) → Type 0
@@ -75,7 +75,7 @@ both_limits l h =
 module _ {F : Type 0} (most : ℕ) (value : F → ℚ) where
   -- the bound is set, or implied by the one in force already
   pub record IsSet (old : State F) (b : Bound) (tag : ℕ) (new : State F) : Type 0 where
-    pub fits : ¬ Passes most b
+    pub fits : ¬ Overflows most b
     pub limit : Limit DeltaValue
     pub is_limit : IsLimitOf b tag limit
     pub agrees : ¬ Contradicts (corner value old).limits limit
@@ -85,7 +85,7 @@ module _ {F : Type 0} (most : ℕ) (value : F → ℚ) where
 
   -- the bound contradicts the one in force on the other side
   pub record IsRefused (old : State F) (b : Bound) (tag : ℕ) (answer : List (Share F)) (new : State F) : Type 0 where
-    pub fits : ¬ Passes most b
+    pub fits : ¬ Overflows most b
     pub limit : Limit DeltaValue
     pub is_limit : IsLimitOf b tag limit
     pub other : Limit DeltaValue
@@ -96,7 +96,7 @@ module _ {F : Type 0} (most : ℕ) (value : F → ℚ) where
 
   -- the bound's number is too wide, or an operation of the move to it
   pub record IsStuckMoving (old : State F) (b : Bound) (tag : ℕ) (stuck : Stuck) : Type 0 where
-    pub fits : ¬ Passes most b
+    pub fits : ¬ Overflows most b
     pub limit : Limit DeltaValue
     pub is_limit : IsLimitOf b tag limit
     pub agrees : ¬ Contradicts (corner value old).limits limit

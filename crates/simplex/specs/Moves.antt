@@ -31,7 +31,7 @@ moved_value value t old m to v =
 -- one part of the change: the sum of the new stand and the opposite value
 pub record IsStuckDifference (limit m : ℕ) (to old : ℚ) (stuck : Stuck) : Type 0 where
   pub operation : IsOperation Value m m Sum to (neg_ℚ old) stuck
-  pub passes : SumIsWide limit to (neg_ℚ old)
+  pub overflows : SumIsWide limit to (neg_ℚ old)
 
 abbrev pub IsStuckChange : ℕ → ℕ → DeltaValue → DeltaValue → Stuck → Type 0
 IsStuckChange limit m old to stuck = IsStuckDifference limit m to.real old.real stuck ⊎ IsStuckDifference limit m to.inf old.inf stuck
@@ -39,11 +39,11 @@ IsStuckChange limit m old to stuck = IsStuckDifference limit m to.real old.real 
 -- one part of a basic variable's value x: the product of the entry e and the change d, or then its sum with x
 pub record IsStuckProduct (limit r m : ℕ) (e d : ℚ) (stuck : Stuck) : Type 0 where
   pub operation : IsOperation Value r m Product e d stuck
-  pub passes : Exceeds limit (e *ℚ d)
+  pub overflows : Exceeds limit (e *ℚ d)
 
 pub record IsStuckSum (limit r m : ℕ) (x e d : ℚ) (stuck : Stuck) : Type 0 where
   pub operation : IsOperation Value r m Sum x (e *ℚ d) stuck
-  pub passes : SumIsWide limit x (e *ℚ d)
+  pub overflows : SumIsWide limit x (e *ℚ d)
 
 abbrev pub IsStuckPart : ℕ → ℕ → ℕ → ℚ → ℚ → ℚ → Stuck → Type 0
 IsStuckPart limit r m x e d stuck = IsStuckProduct limit r m e d stuck ⊎ IsStuckSum limit r m x e d stuck

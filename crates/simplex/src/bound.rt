@@ -5,7 +5,7 @@ ghost use Rattle.ordered_field.specs.Rational.{whole, ◌*ℚ◌};
 ghost use Rattle.ordered_field.specs.Wideness.{QuotientExceeds};
 ghost use Rattle.whole.specs.Numbers.{IsWithin};
 ghost use Rattle.simplex.specs.Limits.{limit_value};
-ghost use Rattle.simplex.specs.Bounds.{IsLimitOf, Passes, IsStuckBound, IsBoundProduct, infinitesimal_of};
+ghost use Rattle.simplex.specs.Bounds.{IsLimitOf, Overflows, IsStuckBound, IsBoundProduct, infinitesimal_of};
 
 use crate::limits::Limit;
 use crate::outcome::Bound;
@@ -19,7 +19,7 @@ pub(crate) fn limit_of<F: OrderedField>(bound: Bound, tag: u32) -> Result<Limit<
     requires within { IsWithin bound.num }
     requires positive { pos 1 ≤ℤ bound.den }
     ensures exact { IfOk result (λ l. IsLimitOf bound tag (limit_value F.value l)) }
-    ensures kept { OnOk result (¬ Passes F.LIMIT bound) }
+    ensures kept { OnOk result (¬ Overflows F.LIMIT bound) }
     ensures stuck { IfErr result (IsStuckBound F.LIMIT bound) }
 {
     match quotient::<F>(bound.num, bound.den) {

@@ -47,7 +47,7 @@ stuck_coefficient limit n forms i v ts fault within terms_are variable_is stuck 
       term = found.term;
       listed = subst (λ l. Contains l found.term) terms_are found.listed;
       operation = subst (λ b. IsOperation Bound b found.term.var Product (whole found.term.coef) (whole (pos 1)) s) variable_is found.number.operation;
-      passes = found.number.passes;
+      overflows = found.number.overflows;
     }) stuck
 
 -- the entries of a form's row are at columns
@@ -254,7 +254,7 @@ module _ {F : Type 0} (limit : ℕ) (value : F → ℚ) (n : ℕ) (forms : List 
           subst (λ r. x r ≡ row_value (variables t) (entry value t r) x) at (meets j inside ∙ sym (value_of j x inside))
       by_case meets b is (inr (inr beyond)) = absurd (true≢false (sym is ∙ flag_beyond b beyond))
 
--- no coefficient of a form passes the limit
+-- no coefficient of a form exceeds the limit
 pub opened_fits : {F : Type 0} (limit : ℕ) (value : F → ℚ) (n : ℕ) (forms : List (Vec RowTerm)) (basic : List Bool) (rows : List (List (Entry F))) (users : List (List ℕ)) → IsOpened limit value n forms (length forms) basic rows users → CoefficientsFit limit forms
 opened_fits limit value n forms basic rows users opened = λ j. by_place j (cases_lt j (length forms))
   where

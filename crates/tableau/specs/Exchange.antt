@@ -33,19 +33,19 @@ pub record IsStuckQuotient (limit : ℕ) (b o : ℕ) (c : ℕ → ℚ) (stuck : 
   pub inverse : ℚ
   pub inverts : inverse *ℚ c o ≡ whole (pos 1)
   pub operation : IsOperation Pivot o variable Product (dividend b o c variable) inverse stuck
-  pub passes : Exceeds limit (dividend b o c variable *ℚ inverse)
+  pub overflows : Exceeds limit (dividend b o c variable *ℚ inverse)
 
 -- the product of a row's coefficient of o and an entry of the solved row d is too wide
 pub record IsStuckProduct (limit : ℕ) (r o : ℕ) (d c : ℕ → ℚ) (stuck : Stuck) : Type 0 where
   pub variable : ℕ
   pub operation : IsOperation Pivot r variable Product (c o) (d variable) stuck
-  pub passes : Exceeds limit (c o *ℚ d variable)
+  pub overflows : Exceeds limit (c o *ℚ d variable)
 
 -- the sum of a row's entry and that product is too wide
 pub record IsStuckSum (limit : ℕ) (r o : ℕ) (d c : ℕ → ℚ) (stuck : Stuck) : Type 0 where
   pub variable : ℕ
   pub operation : IsOperation Pivot r variable Sum (without o c variable) (c o *ℚ d variable) stuck
-  pub passes : SumIsWide limit (without o c variable) (c o *ℚ d variable)
+  pub overflows : SumIsWide limit (without o c variable) (c o *ℚ d variable)
 
 -- the operation is one of the row c of variable r, with d in the place of o, and too wide
 abbrev pub IsStuckStep : ℕ → ℕ → ℕ → (ℕ → ℚ) → (ℕ → ℚ) → Stuck → Type 0

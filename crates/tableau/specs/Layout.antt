@@ -101,10 +101,10 @@ pub record IsOpened {F : Type 0} (limit : ℕ) (value : F → ℚ) (n : ℕ) (fo
   pub named : (j v : ℕ) → j < k → ¬ (coefficient value (get_or rows (n + j) []) v ≡ whole (pos 0)) → Contains (get_or users v []) (n + j)
   pub fits : (j : ℕ) → j < k → All (λ t. unsigned_abs t.coef ≤ limit) (form forms j)
 
--- the coefficient of one term passes the limit
+-- the coefficient of one term exceeds the limit
 pub record IsStuckNumber (limit v : ℕ) (t : RowTerm) (stuck : Stuck) : Type 0 where
   pub operation : IsOperation Bound v t.var Product (whole t.coef) (whole (pos 1)) stuck
-  pub passes : limit < unsigned_abs t.coef
+  pub overflows : limit < unsigned_abs t.coef
 
 -- that of one of these terms does
 pub record IsStuckTerm (limit v : ℕ) (ts : List RowTerm) (stuck : Stuck) : Type 0 where

@@ -19,11 +19,11 @@ pub record IsOpening {F : Type 0} (value : F → ℚ) (n : ℕ) (rows : List (Ve
   pub entries :
       (j v : ℕ) → j < length rows → entry value t (n + j) v ≡ whole (coefficient_of (form rows j) v)
 
--- the operation is a coefficient times 1, and the coefficient passes the limit
+-- the operation is a coefficient times 1, and the coefficient exceeds the limit
 pub record IsStuckCoefficient (limit n : ℕ) (rows : List (Vec RowTerm)) (stuck : Stuck) : Type 0 where
   pub row : ℕ
   pub within : row < length rows
   pub term : RowTerm
   pub listed : Contains (form rows row) term
   pub operation : IsOperation Bound (n + row) term.var Product (whole term.coef) (whole (pos 1)) stuck
-  pub passes : limit < unsigned_abs term.coef
+  pub overflows : limit < unsigned_abs term.coef

@@ -33,6 +33,6 @@ AreForms columns rows = (j : ℕ) → AreTerms columns (form rows j)
 unfoldable pub MeetsForms : ℕ → List (Vec RowTerm) → (ℕ → ℚ) → Type 0
 MeetsForms columns rows x = (j : ℕ) → j < length rows → x (columns + j) ≡ form_value (form rows j) x
 
--- no coefficient passes the limit
+-- no coefficient exceeds the limit
 abbrev pub CoefficientsFit : ℕ → List (Vec RowTerm) → Type 0
 CoefficientsFit limit rows = (j : ℕ) → All (λ t. unsigned_abs t.coef ≤ limit) (form rows j)

@@ -12,7 +12,7 @@ pub enum Fault {
     /// It stands on the line already.
     Twice,
     /// Nothing of its kind may stand there.
-    Place,
+    Misplaced,
     /// Something has to stand before it.
     Early,
 }

@@ -7,7 +7,7 @@ use Rattle.whole.specs.declared.answers.Refusal.{Refusal}
 use Rattle.text_lines.specs.Pieces.{pieces}
 use Rattle.text_lines.specs.Steps.{Fails, ◌>>=◌}
 use Rattle.text_machine.specs.declared.faults.Fault.{Fault}
-use Rattle.text_machine.specs.declared.faults.Fault.TheVariants.{Large, Place}
+use Rattle.text_machine.specs.declared.faults.Fault.TheVariants.{Large, Misplaced}
 use Rattle.text_machine.specs.Items.{natural, whole, one_of}
 use Rattle.text_machine.specs.Lines.{LineForm, stop, number, fails, times, read_line}
 use Rattle.text_machine.specs.Texts.{Table, Format, IsTextOf, FirstRefused, feed, finish, read_text}
@@ -32,7 +32,7 @@ place_of Word.End = 4
 
 -- nothing behind the word, where such a line may stand
 abbrev pub only : Bool → LineForm
-only allowed = if allowed then stop else fails Place
+only allowed = if allowed then stop else fails Misplaced
 
 -- how many numbers, and the numbers
 abbrev pub list_form : LineForm
@@ -45,11 +45,11 @@ may_open version depth = nat_eq version 2 && nat_lt depth 9
 -- what is wanted behind each word
 abbrev pub forms : Spot → List LineForm
 forms Start = number (natural 1 2) (λ _. stop) ∷ []
-forms (Body version depth) = fails Place ∷ list_form ∷ only (may_open version depth) ∷ only (nat_lt 0 depth) ∷ only (nat_eq depth 0) ∷ []
+forms (Body version depth) = fails Misplaced ∷ list_form ∷ only (may_open version depth) ∷ only (nat_lt 0 depth) ∷ only (nat_eq depth 0) ∷ []
 forms Done = []
 
 abbrev pub line_form : Spot → LineForm
-line_form s = number (one_of words refl) (λ word. get_or (forms s) (unsigned_abs word) (fails Place))
+line_form s = number (one_of words refl) (λ word. get_or (forms s) (unsigned_abs word) (fails Misplaced))
 
 abbrev pub form_in : Spot → Option LineForm
 form_in Start = Some (line_form Start)
@@ -72,7 +72,7 @@ refusal rule k = record { letter = 84; number = rule; line = k }
 -- T1 on a line, T2 on a number that is too large, T3 on what may not stand there
 abbrev pub rule_of : Fault → ℕ
 rule_of Large = 2
-rule_of Place = 3
+rule_of Misplaced = 3
 rule_of _ = 1
 
 abbrev pub toy : Format Spot Refusal
@@ -121,7 +121,7 @@ toy_fed lines rest = feed toy Start 1 lines >>= λ y. finish toy y.1 (1 + length
 -- ---- what calls give
 
 abbrev pub form_read : Option LineForm → List (List ℕ) → Result (List ℤ) Fault
-form_read None items = Err Place
+form_read None items = Err Misplaced
 form_read (Some form) items = read_line form items
 
 -- a line and where the next one stands, unless memory ran out

@@ -58,7 +58,7 @@ pub(crate) fn read_line(alloc: Global, spot: Spot, line: &[u8]) -> Result<(Line,
     match spot {
         Spot::Start => Ok(header_of(&mut fields)?),
         Spot::Body { version, depth } => body_of(alloc, &mut fields, version, depth),
-        Spot::Done => Err(LineFault::Item(Fault::Place)),
+        Spot::Done => Err(LineFault::Item(Fault::Misplaced)),
     }
 }
 
@@ -73,7 +73,7 @@ fn header_of(fields: &mut Fields<'_>) -> Result<(Line, Spot), Fault>
             fields.end()?;
             Ok((Line::Header(version), Spot::Body { version, depth: 0 }))
         }
-        Word::List | Word::Open | Word::Close | Word::End => Err(Fault::Place),
+        Word::List | Word::Open | Word::Close | Word::End => Err(Fault::Misplaced),
     }
 }
 
@@ -89,7 +89,7 @@ fn body_of(
     ensures leads { IfOk result (λ found. found.1 ≡ leads (Spot.Body version depth) (numbers found.0)) }
 {
     match first_word(fields)? {
-        Word::Toy => Err(LineFault::Item(Fault::Place)),
+        Word::Toy => Err(LineFault::Item(Fault::Misplaced)),
         Word::List => {
             let list = list_of(alloc, fields)?;
             Ok((Line::Numbers(list), Spot::Body { version, depth }))
@@ -120,7 +120,7 @@ fn only(fields: &mut Fields<'_>, allowed: bool) -> Result<(), Fault>
     if allowed {
         fields.end()
     } else {
-        Err(Fault::Place)
+        Err(Fault::Misplaced)
     }
 }
 

@@ -95,7 +95,7 @@ fn rule_of(fault: Fault) -> u8
 {
     match fault {
         Fault::Large => 2,
-        Fault::Place => 3,
+        Fault::Misplaced => 3,
         _ => 1,
     }
 }

@@ -6,7 +6,7 @@ use std::alloc::{AllocError, AllocFailed};
 /// Why no picture is made of a run.
 #[derive(Clone, Copy, Debug, PartialEq, Eq)]
 pub enum DrawFault {
-    /// A number on the way passes 128 bits, or an amount no scale.
+    /// A number on the way overflows 128 bits, or an amount no scale.
     Wide,
     NoMemory,
 }

@@ -46,7 +46,7 @@ pub struct Picture {
     pub panels: Items<Panel>,
 }
 
-/// The picture of a run on a path. It is refused as too wide where a number on the way passes 128 bits.
+/// The picture of a run on a path. It is refused as too wide where a number on the way overflows 128 bits.
 pub fn draw(alloc: Global, path: &Path, shape: &Shape, run: &Run) -> Result<Picture, DrawFault>
     requires path_in { IsPath path.now }
     requires within { IsWithin shape.now }

@@ -1,5 +1,5 @@
 pub mod ExampleLimits
-pub mod Findings
+pub mod ReplayOrder
 pub mod PlaceLaws
 pub mod ReplayLaws
 pub mod SeenLaws

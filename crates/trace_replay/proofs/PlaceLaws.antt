@@ -5,10 +5,10 @@ use Rattle.std.proofs.lemmas.Bool.{cases_lt}
 use Rattle.std.proofs.lemmas.Bool.Decides.{nat_tests}
 use Rattle.std.proofs.lemmas.List.Elements.{All-append, All-cons, All-map, All-nil, All-same}
 use Rattle.whole.specs.declared.answers.Stuck.{Stuck}
-use Rattle.weighing.specs.Asked.{IsFirstStuck, NonePasses}
+use Rattle.weighing.specs.Queries.{IsFirstStuck, NoneOverflows}
 use Rattle.weighing.specs.Claim.{Claim}
 use Rattle.weighing.specs.First.{below}
-use Rattle.weighing.specs.Passing.{IsFirstPassing, NothingPasses}
+use Rattle.weighing.specs.Overflow.{IsFirstOverflow, NothingOverflows}
 use Rattle.weighing.proofs.Claims.{never_stuck, outcome_answers}
 use Rattle.run_rows.specs.Runs.{Bounded}
 use Rattle.run_rows.specs.declared.rows.Run.{Run}
@@ -19,7 +19,7 @@ use Rattle.path_server.proofs.AdmissionLaws.{all_below, all_flat_map, holds_on_r
 use Rattle.ctrl_types.specs.Limits.{IsController}
 use Rattle.ctrl_types.specs.declared.controllers.Controller.{Controller}
 use Rattle.ctrl_meaning.specs.Limits.{FitsBoth, HasShape, IsControlled}
-use Rattle.ctrl_meaning.specs.Meaning.{IsStuckInStep, NothingPassesInStep, StateAgrees}
+use Rattle.ctrl_meaning.specs.Meaning.{IsStuckInStep, NothingOverflowsInStep, StateAgrees}
 use Rattle.ctrl_meaning.specs.Opening.{opening, opening_row, range_claim}
 use Rattle.ctrl_meaning.specs.Steps.{guard_claim, sending, sent, sent_claim, state_claim, step, stepping}
 use Rattle.ctrl_meaning.specs.declared.opening.OpeningHolds.{OpeningHolds}
@@ -29,9 +29,9 @@ use Rattle.ctrl_meaning.specs.declared.step.StepHolds.TheVariants.{Yes, State, A
 use Rattle.ctrl_meaning.proofs.OpeningLaws as openings
 use Rattle.ctrl_meaning.proofs.StepLaws.{IsReadyRow, arrival_law, not_sends_law, one_fires, ready_row, send_sticks_again, send_sticks_law, send_wide_law, sends_law, state_law, step_wide_again, step_wide_law, yes_law}
 use Rattle.question_text.specs.declared.questions.Question.{Question}
-use Rattle.trace_replay.specs.Replaying.{Place, fits, obeys, opens, steps, sends, are_stepped, are_within, each_flow, places, places_of_flows, places_of_row, places_of_rows, weighed_at}
+use Rattle.trace_replay.specs.Replaying.{ReplayPlace, fits, obeys, opens, steps, sends, are_stepped, are_within, each_flow, places, places_of_flows, places_of_row, places_of_rows, weighed_at}
 use Rattle.ctrl_meaning.specs.RunOf.{RunOf}
-use Rattle.trace_replay.specs.Meaning.{HoldsAt, IsStuckAt, NothingPassesAt}
+use Rattle.trace_replay.specs.Meaning.{HoldsAt, IsStuckAt, NothingOverflowsAt}
 
 -- the row and the flow can be read
 pub record IsReadable (c : Controller) (s : Setting) (i f : ℕ) : Type 0 where
@@ -40,7 +40,7 @@ pub record IsReadable (c : Controller) (s : Setting) (i f : ℕ) : Type 0 where
   pub to : f ≤ s.flows
 
 -- the places that a run of the right shape is asked at
-abbrev pub IsPlace : Controller → Question → Place → Type 0
+abbrev pub IsPlace : Controller → Question → ReplayPlace → Type 0
 IsPlace c q fits = ⊥
 IsPlace c q (obeys p) = Unit {0}
 IsPlace c q (opens f) = Unit {0}
@@ -59,24 +59,24 @@ ready c q r i f given at =
 
 -- ---- what a weighing says
 
--- what comes of weighing what is asked at a place: it holds, or it doesn't, or a weighing passes
-pub record WeighsAt (c : Controller) (q : Question) (r : Run) (place : Place) : Type 0 where
-  pub holds : weighed_at c q r place ≡ Ok true → NothingPassesAt c q r place × HoldsAt c q r place
-  pub holding : NothingPassesAt c q r place → HoldsAt c q r place → weighed_at c q r place ≡ Ok true
-  pub fails : weighed_at c q r place ≡ Ok false → NothingPassesAt c q r place × (HoldsAt c q r place → ⊥)
-  pub failing : NothingPassesAt c q r place → (HoldsAt c q r place → ⊥) → weighed_at c q r place ≡ Ok false
+-- what comes of weighing what is asked at a place: it holds, or it doesn't, or a weighing overflows
+pub record WeighsAt (c : Controller) (q : Question) (r : Run) (place : ReplayPlace) : Type 0 where
+  pub holds : weighed_at c q r place ≡ Ok true → NothingOverflowsAt c q r place × HoldsAt c q r place
+  pub holding : NothingOverflowsAt c q r place → HoldsAt c q r place → weighed_at c q r place ≡ Ok true
+  pub fails : weighed_at c q r place ≡ Ok false → NothingOverflowsAt c q r place × (HoldsAt c q r place → ⊥)
+  pub failing : NothingOverflowsAt c q r place → (HoldsAt c q r place → ⊥) → weighed_at c q r place ≡ Ok false
   pub sticks : (stuck : Stuck) → weighed_at c q r place ≡ Err stuck → IsStuckAt c q r place stuck
   pub sticking : (stuck : Stuck) → IsStuckAt c q r place stuck → weighed_at c q r place ≡ Err stuck
 
-abbrev Meant : Controller → Question → Run → Place → Result Bool Stuck → Type 0
-Meant c q r place (Ok true) = NothingPassesAt c q r place × HoldsAt c q r place
-Meant c q r place (Ok false) = NothingPassesAt c q r place × (HoldsAt c q r place → ⊥)
+abbrev Meant : Controller → Question → Run → ReplayPlace → Result Bool Stuck → Type 0
+Meant c q r place (Ok true) = NothingOverflowsAt c q r place × HoldsAt c q r place
+Meant c q r place (Ok false) = NothingOverflowsAt c q r place × (HoldsAt c q r place → ⊥)
 Meant c q r place (Err stuck) = IsStuckAt c q r place stuck
 
--- from what its answer means, and that a weighing that is stuck is the answer and isn't one in which nothing passes
-weighs_by : (c : Controller) (q : Question) (r : Run) (place : Place) (o : Result Bool Stuck) → weighed_at c q r place ≡ o → Meant c q r place o
+-- from what its answer means, and that a weighing that is stuck is the answer and isn't one in which nothing overflows
+weighs_by : (c : Controller) (q : Question) (r : Run) (place : ReplayPlace) (o : Result Bool Stuck) → weighed_at c q r place ≡ o → Meant c q r place o
     → ((stuck : Stuck) → IsStuckAt c q r place stuck → weighed_at c q r place ≡ Err stuck)
-    → ((stuck : Stuck) → IsStuckAt c q r place stuck → NothingPassesAt c q r place → ⊥)
+    → ((stuck : Stuck) → IsStuckAt c q r place stuck → NothingOverflowsAt c q r place → ⊥)
     → WeighsAt c q r place
 weighs_by c q r place o is meant again quiet = record {
   holds = λ e. subst (Meant c q r place) (sym is ∙ e) meant;
@@ -87,22 +87,22 @@ weighs_by c q r place o is meant again quiet = record {
   sticking = again;
 }
   where
-    holding : (o : Result Bool Stuck) → Meant c q r place o → NothingPassesAt c q r place → HoldsAt c q r place → o ≡ Ok true
+    holding : (o : Result Bool Stuck) → Meant c q r place o → NothingOverflowsAt c q r place → HoldsAt c q r place → o ≡ Ok true
     holding (Ok true) meant small holds = refl
     holding (Ok false) meant small holds = absurd (meant.1 holds)
     holding (Err stuck) meant small holds = absurd (quiet stuck meant small)
 
-    failing : (o : Result Bool Stuck) → Meant c q r place o → NothingPassesAt c q r place → (HoldsAt c q r place → ⊥) → o ≡ Ok false
+    failing : (o : Result Bool Stuck) → Meant c q r place o → NothingOverflowsAt c q r place → (HoldsAt c q r place → ⊥) → o ≡ Ok false
     failing (Ok true) meant small not = absurd (not meant.1)
     failing (Ok false) meant small not = refl
     failing (Err stuck) meant small not = absurd (quiet stuck meant small)
 
--- what is stuck isn't what nothing passes in
-stuck_passes : (row : ℕ) (claim : Claim) (stuck : Stuck) → IsFirstPassing row claim stuck → NothingPasses claim → ⊥
-stuck_passes row claim stuck one small = never_stuck row claim stuck small (((outcome_answers row claim).stuck stuck).1 one)
+-- what is stuck isn't what nothing overflows in
+stuck_overflows : (row : ℕ) (claim : Claim) (stuck : Stuck) → IsFirstOverflow row claim stuck → NothingOverflows claim → ⊥
+stuck_overflows row claim stuck one small = never_stuck row claim stuck small (((outcome_answers row claim).stuck stuck).1 one)
 
-one_passes : (row : ℕ) (claim : ℕ → Claim) (n : ℕ) (stuck : Stuck) → IsFirstStuck row claim n stuck → NonePasses claim n → ⊥
-one_passes row claim n stuck one small = stuck_passes row (claim one.at) stuck one.here (small one.at one.within)
+one_overflows : (row : ℕ) (claim : ℕ → Claim) (n : ℕ) (stuck : Stuck) → IsFirstStuck row claim n stuck → NoneOverflows claim n → ⊥
+one_overflows row claim n stuck one small = stuck_overflows row (claim one.at) stuck one.here (small one.at one.within)
 
 module _ (c : Controller) (q : Question) (r : Run) where
   opening_meant : (f : ℕ) (answer : OpeningHolds) → opening c q.setting r f ≡ answer → Meant c q r (opens f) (are_within answer)
@@ -116,7 +116,7 @@ module _ (c : Controller) (q : Question) (r : Run) where
   opening_weighs f =
       weighs_by c q r (opens f) (are_within (opening c q.setting r f)) refl (opening_meant f (opening c q.setting r f) refl)
       (λ stuck one. ap are_within (openings.wide_again c q.setting r f stuck one))
-      (λ stuck one small. one_passes (opening_row c q.setting) (range_claim c r (opening_row c q.setting) f) (length c.states) stuck one small)
+      (λ stuck one small. one_overflows (opening_row c q.setting) (range_claim c r (opening_row c q.setting) f) (length c.states) stuck one small)
 
   step_meant : (i f : ℕ) → IsReadyRow c q.setting r i f → (answer : StepHolds) → step c q.setting r i f ≡ answer
       → Meant c q r (steps i f) (are_stepped answer)
@@ -132,12 +132,12 @@ module _ (c : Controller) (q : Question) (r : Run) where
   step_meant i f at (StepWide stuck) is = step_wide_law c q.setting r i f at stuck is
   step_meant i f at (SendWide stuck) is = let other = send_wide_law c q.setting r i f at stuck is in (other.weighed, (other.rule, other.steps))
 
-  step_quiet : (i f : ℕ) (stuck : Stuck) → IsStuckInStep c q.setting r i f stuck → NothingPassesInStep c r (stepping q.setting i f) → ⊥
+  step_quiet : (i f : ℕ) (stuck : Stuck) → IsStuckInStep c q.setting r i f stuck → NothingOverflowsInStep c r (stepping q.setting i f) → ⊥
   step_quiet i f stuck one small =
       elim one [
-        | inl guards ↦ one_passes i (guard_claim c r (stepping q.setting i f)) (length c.rules) stuck guards small.guards
+        | inl guards ↦ one_overflows i (guard_claim c r (stepping q.setting i f)) (length c.rules) stuck guards small.guards
         | inr later ↦
-            one_passes i (state_claim c r (stepping q.setting i f) later.0) (length c.states) stuck later.3 (small.states later.0 later.1)
+            one_overflows i (state_claim c r (stepping q.setting i f) later.0) (length c.states) stuck later.3 (small.states later.0 later.1)
       ]
 
   step_weighs : (i f : ℕ) → IsReadyRow c q.setting r i f → WeighsAt c q r (steps i f)
@@ -157,9 +157,9 @@ module _ (c : Controller) (q : Question) (r : Run) where
   send_weighs i f at =
       weighs_by c q r (sends i f) (sent c r (sending q.setting i f)) refl (send_meant i f at (sent c r (sending q.setting i f)) refl)
       (λ stuck one. send_sticks_again c r (sending q.setting i f) stuck one)
-      (λ stuck one small. stuck_passes i (sent_claim c r (sending q.setting i f)) stuck one small)
+      (λ stuck one small. stuck_overflows i (sent_claim c r (sending q.setting i f)) stuck one small)
 
-  pub weighs_at : IsGiven c q r → (place : Place) → IsPlace c q place → WeighsAt c q r place
+  pub weighs_at : IsGiven c q r → (place : ReplayPlace) → IsPlace c q place → WeighsAt c q r place
   unfolding weighed_at
   weighs_at given fits is = absurd is
   weighs_at given (obeys p) is =
@@ -178,7 +178,7 @@ module _ (c : Controller) (q : Question) (r : Run) where
 
 -- ---- what holds at every place
 
-each_holds : (P : Place → Type 0) (place : ℕ → Place) (n : ℕ) → ((f : ℕ) → 1 ≤ f → f ≤ n → P (place f)) → All P (each_flow place n)
+each_holds : (P : ReplayPlace → Type 0) (place : ℕ → ReplayPlace) (n : ℕ) → ((f : ℕ) → 1 ≤ f → f ≤ n → P (place f)) → All P (each_flow place n)
 each_holds P place n each =
     All-map P (λ k. place (k + 1)) (below n) (all_below (λ k. P (place (k + 1))) n (λ k less. each (k + 1) (omega arith) (omega arith)))
 
@@ -215,7 +215,7 @@ after_opening h n i less =
     not_same a b less = grind (arith, nat_tests, less)
 
 -- so it is known of all of it where it is known on the opening row and after it
-flows_hold : (P : Place → Type 0) (h n i : ℕ) → (i ≡ h → All P (each_flow opens n)) → (h < i → All P (each_flow (steps i) n ++ each_flow (sends i) n))
+flows_hold : (P : ReplayPlace → Type 0) (h n i : ℕ) → (i ≡ h → All P (each_flow opens n)) → (h < i → All P (each_flow (steps i) n ++ each_flow (sends i) n))
     → All P (places_of_flows h n i)
 flows_hold P h n i on after =
     elim (cases_lt i h) [
@@ -229,7 +229,7 @@ flows_hold P h n i on after =
     ]
 
 -- a fact of every place of a row, where it is known of each kind of place
-row_holds : (P : Place → Type 0) (c : Controller) (q : Question) (r : Run) (i : ℕ) → HasShape c q.setting r → i < length r.rows
+row_holds : (P : ReplayPlace → Type 0) (c : Controller) (q : Question) (r : Run) (i : ℕ) → HasShape c q.setting r → i < length r.rows
     → All (λ p. P (obeys p)) (rules_of_row r i)
     → ((f : ℕ) → 1 ≤ f → f ≤ q.setting.flows → P (opens f))
     → ((f : ℕ) → IsReadable c q.setting i f → P (steps i f))

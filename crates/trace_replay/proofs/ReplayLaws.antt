@@ -19,18 +19,18 @@ use Rattle.ctrl_types.specs.Limits.{IsController}
 use Rattle.ctrl_types.specs.declared.controllers.Controller.{Controller}
 use Rattle.ctrl_meaning.specs.Limits.{FitsBoth}
 use Rattle.ctrl_meaning.specs.Opening.{opening_row}
-use Rattle.question_text.specs.Meaning.{NothingPasses as NothingPassesInQuestion, Violates}
+use Rattle.question_text.specs.Meaning.{Violates}
 use Rattle.question_text.specs.Violation.{violation}
 use Rattle.question_text.specs.declared.questions.Question.{Question}
 use Rattle.question_text.proofs.Laws as questions
-use Rattle.trace_replay.specs.Replaying.{Place, fits, obeys, opens, steps, sends, answer, broken_at, each_flow, found, of_question, places, places_of_flows, places_of_row, places_of_rows, replaying, stop_at, weighed_at}
+use Rattle.trace_replay.specs.Replaying.{ReplayPlace, fits, obeys, opens, steps, sends, answer, broken_at, each_flow, found, of_question, places, places_of_flows, places_of_row, places_of_rows, replaying, stop_at, weighed_at}
 use Rattle.ctrl_meaning.specs.RunOf.{RunOf}
-use Rattle.trace_replay.specs.Meaning.{HoldsAt, IsFirstBroken, IsFirstWide, IsStuckAt, IsStuckInQuestion, IsStuckInRun, NothingPasses, NothingPassesAt, NothingPassesInRun}
+use Rattle.trace_replay.specs.Meaning.{HoldsAt, IsFirstBroken, IsFirstWide, IsStuckAt, IsStuckInRun, NothingOverflows, NothingOverflowsAt, NothingOverflowsInRun}
 use Rattle.trace_replay.specs.declared.replaying.RunRule.{RunRule}
 use Rattle.trace_replay.specs.declared.replaying.RunRule.TheVariants.{Shape as HasShape}
 use Rattle.trace_replay.specs.declared.replaying.Replayed.{Replayed}
 use Rattle.trace_replay.specs.declared.replaying.Replayed.TheVariants.{Violating, Keeps, Broken, Wide}
-use Rattle.trace_replay.proofs.Findings.{each_is, rules_passed}
+use Rattle.trace_replay.proofs.ReplayOrder.{each_is, rules_passed}
 use Rattle.trace_replay.proofs.PlaceLaws.{IsGiven, IsPlace, IsReadable, WeighsAt, after_opening, held_everywhere, on_opening, places_are, weighs_at}
 
 -- ---- where every place of the rows is passed, the run is one of the controller's
@@ -40,13 +40,13 @@ flows_part : (c : Controller) (q : Question) (r : Run) (i : ℕ) → first (foun
     × (first (found c q r) (places_of_flows (opening_row c q.setting) q.setting.flows i) ≡ Ok tt)
 unfolding places_of_row
 flows_part c q r i none =
-    let rules_first : List Place = map obeys (rules_of_row r i) in
-    let flows_then : List Place = places_of_flows (opening_row c q.setting) q.setting.flows i in
+    let rules_first : List ReplayPlace = map obeys (rules_of_row r i) in
+    let flows_then : List ReplayPlace = places_of_flows (opening_row c q.setting) q.setting.flows i in
     cases_ok (first (found c q r) rules_first) (first (found c q r) flows_then)
     (sym (first-append (found c q r) rules_first flows_then) ∙ none)
 
 -- a flow's place among those of all flows
-flow_passed : (c : Controller) (q : Question) (r : Run) (place : ℕ → Place) (n f : ℕ) → first (found c q r) (each_flow place n) ≡ Ok tt
+flow_passed : (c : Controller) (q : Question) (r : Run) (place : ℕ → ReplayPlace) (n f : ℕ) → first (found c q r) (each_flow place n) ≡ Ok tt
     → 1 ≤ f → f ≤ n → found c q r (place f) ≡ Ok tt
 flow_passed c q r place n f none from to =
     let same : f - 1 + 1 ≡ f = omega arith in
@@ -59,15 +59,15 @@ passed_weighs broken (Ok false) is = absurd (cc)
 passed_weighs broken (Err stuck) is = absurd (cc)
 
 module _ (c : Controller) (q : Question) (r : Run) (given : IsGiven c q r) where
-  kept : (place : Place) → IsPlace c q place → found c q r place ≡ Ok tt → NothingPassesAt c q r place × HoldsAt c q r place
+  kept : (place : ReplayPlace) → IsPlace c q place → found c q r place ≡ Ok tt → NothingOverflowsAt c q r place × HoldsAt c q r place
   unfolding found
   kept place is passed = (weighs_at c q r given place is).holds (passed_weighs (broken_at c q place) (weighed_at c q r place) passed)
 
-  passes : (place : Place) → IsPlace c q place → NothingPassesAt c q r place → HoldsAt c q r place → found c q r place ≡ Ok tt
+  overflows : (place : ReplayPlace) → IsPlace c q place → NothingOverflowsAt c q r place → HoldsAt c q r place → found c q r place ≡ Ok tt
   unfolding found
-  passes place is small holds = ap (stop_at (broken_at c q place)) ((weighs_at c q r given place is).holding small holds)
+  overflows place is small holds = ap (stop_at (broken_at c q place)) ((weighs_at c q r given place is).holding small holds)
 
-passed_holds : (c : Controller) (q : Question) (r : Run) → IsGiven c q r → (place : Place) → IsPlace c q place
+passed_holds : (c : Controller) (q : Question) (r : Run) → IsGiven c q r → (place : ReplayPlace) → IsPlace c q place
     → found c q r place ≡ Ok tt → HoldsAt c q r place
 passed_holds c q r given place is passed = (kept c q r given place is passed).1
 
@@ -109,15 +109,15 @@ run_passed c q r given none =
 
 -- ---- where a place isn't passed
 
--- the first place that isn't: what is asked there doesn't hold, or its weighing is stuck; nothing passes before
+-- the first place that isn't: what is asked there doesn't hold, or its weighing is stuck; nothing overflows before
 record Stops (c : Controller) (q : Question) (r : Run) (stop : Replayed) : Type 0 where
-  before : List Place
-  place : Place
-  after : List Place
+  before : List ReplayPlace
+  place : ReplayPlace
+  after : List ReplayPlace
   parts : places c q r ≡ before ++ place ∷ after
-  weighed : All (NothingPassesAt c q r) before
+  weighed : All (NothingOverflowsAt c q r) before
   held : All (HoldsAt c q r) before
-  why : ((broken_at c q place ≡ stop) × NothingPassesAt c q r place × (HoldsAt c q r place → ⊥))
+  why : ((broken_at c q place ≡ stop) × NothingOverflowsAt c q r place × (HoldsAt c q r place → ⊥))
       ⊎ ((stuck : Stuck) × (Wide stuck ≡ stop) × IsStuckAt c q r place stuck)
 
 stopped_weighs : (broken stop : Replayed) (o : Result Bool Stuck) → stop_at broken o ≡ Err stop
@@ -143,7 +143,7 @@ rows_stop c q r stop given stops =
       place = one.stop;
       after = one.after;
       parts = ap (λ ps. fits ∷ ps) one.parts;
-      weighed = All-cons (NothingPassesAt c q r) fits one.before tt (λ k d inside.
+      weighed = All-cons (NothingOverflowsAt c q r) fits one.before tt (λ k d inside.
           (kept c q r given (get_or one.before k d) (front k d inside) (one.passed k d inside)).0);
       held = All-cons (HoldsAt c q r) fits one.before given.shaped (λ k d inside.
           (kept c q r given (get_or one.before k d) (front k d inside) (one.passed k d inside)).1);
@@ -156,15 +156,15 @@ rows_stop c q r stop given stops =
 -- ---- what is found, of a controller and a question within their limits
 
 abbrev Finds : Controller → Question → Run → Result (Unit {0}) Replayed → Type 0
-Finds c q r (Ok _) = RunOf c q.setting r × Bounded r × NothingPassesInRun c q r
+Finds c q r (Ok _) = RunOf c q.setting r × Bounded r × NothingOverflowsInRun c q r
 Finds c q r (Err stop) = Stops c q r stop
 
 all_weighed : (c : Controller) (q : Question) (r : Run) → IsGiven c q r → first (found c q r) (places_of_rows c q r) ≡ Ok tt
-    → NothingPassesInRun c q r
+    → NothingOverflowsInRun c q r
 all_weighed c q r given none =
     let passed = each_passed (found c q r) (places_of_rows c q r) none in
     let all = places_are c q r given.shaped.shaped in
-    All-cons (NothingPassesAt c q r) fits (places_of_rows c q r) tt (λ k d inside.
+    All-cons (NothingOverflowsAt c q r) fits (places_of_rows c q r) tt (λ k d inside.
     (kept c q r given (get_or (places_of_rows c q r) k d) (all k d inside) (passed k d inside)).0)
 
 rows_find : (c : Controller) (q : Question) (r : Run) → IsGiven c q r → (t : Result (Unit {0}) Replayed)
@@ -202,7 +202,7 @@ module _ (c : Controller) (q : Question) (r : Run) (is : IsController c) (set : 
             place = fits;
             after = places_of_rows c q r;
             parts = refl;
-            weighed = All-nil (NothingPassesAt c q r);
+            weighed = All-nil (NothingOverflowsAt c q r);
             held = All-nil (HoldsAt c q r);
             why = inl (refl, tt, not_from_Decides shape_test shape_decides not);
           })
@@ -210,20 +210,20 @@ module _ (c : Controller) (q : Question) (r : Run) (is : IsController c) (set : 
           subst (Finds c q r) (sym (first_fits c q r true shaped))
           (rows_find c q r (given_of (shape_decides.0 shaped)) (first (found c q r) (places_of_rows c q r)) refl)
 
-  -- a run of the controller in which nothing passes is passed at every place
-  run_passes : FitsBoth c q.setting r → RunOf c q.setting r → NothingPassesInRun c q r → first (found c q r) (places c q r) ≡ Ok tt
+  -- a run of the controller in which nothing overflows is passed at every place
+  run_passes : FitsBoth c q.setting r → RunOf c q.setting r → NothingOverflowsInRun c q r → first (found c q r) (places c q r) ≡ Ok tt
   run_passes shaped run_of small =
       let all = places_are c q r shaped.shaped in
       let held = held_everywhere c q r shaped.bounded run_of in
       first_fits c q r true (shape_decides.1 shaped)
       ∙ all_passed (found c q r) (places_of_rows c q r) (λ k d inside.
-      passes c q r (given_of shaped) (get_or (places_of_rows c q r) k d) (all k d inside)
-      (All-tail (NothingPassesAt c q r) fits (places_of_rows c q r) small k d inside)
+      overflows c q r (given_of shaped) (get_or (places_of_rows c q r) k d) (all k d inside)
+      (All-tail (NothingOverflowsAt c q r) fits (places_of_rows c q r) small k d inside)
       (All-tail (HoldsAt c q r) fits (places_of_rows c q r) held k d inside))
 
   -- what is amiss at a place is the answer there
-  stops_here : (stop : Replayed) (place : Place) → WeighsAt c q r place
-      → ((broken_at c q place ≡ stop) × NothingPassesAt c q r place × (HoldsAt c q r place → ⊥))
+  stops_here : (stop : Replayed) (place : ReplayPlace) → WeighsAt c q r place
+      → ((broken_at c q place ≡ stop) × NothingOverflowsAt c q r place × (HoldsAt c q r place → ⊥))
       ⊎ ((stuck : Stuck) × (Wide stuck ≡ stop) × IsStuckAt c q r place stuck)
       → found c q r place ≡ Err stop
   unfolding found
@@ -233,12 +233,12 @@ module _ (c : Controller) (q : Question) (r : Run) (is : IsController c) (set : 
         | inr stuck ↦ ap (stop_at (broken_at c q place)) (weighs.sticking stuck.0 stuck.2) ∙ ap Err stuck.1
       ]
 
-  shape_stops : (stop : Replayed) (place : Place) → fits ≡ place
-      → ((broken_at c q place ≡ stop) × NothingPassesAt c q r place × (HoldsAt c q r place → ⊥))
+  shape_stops : (stop : Replayed) (place : ReplayPlace) → fits ≡ place
+      → ((broken_at c q place ≡ stop) × NothingOverflowsAt c q r place × (HoldsAt c q r place → ⊥))
       ⊎ ((stuck : Stuck) × (Wide stuck ≡ stop) × IsStuckAt c q r place stuck)
       → first (found c q r) (places c q r) ≡ Err stop
   shape_stops stop place same why =
-      elim (subst (λ p. ((broken_at c q p ≡ stop) × NothingPassesAt c q r p × (HoldsAt c q r p → ⊥))
+      elim (subst (λ p. ((broken_at c q p ≡ stop) × NothingOverflowsAt c q r p × (HoldsAt c q r p → ⊥))
       ⊎ ((stuck : Stuck) × (Wide stuck ≡ stop) × IsStuckAt c q r p stuck)) (sym same) why) [
         | inl broken ↦ by shape_test refl broken.2 ∙ ap Err broken.0
         | inr stuck ↦ absurd stuck.2
@@ -252,7 +252,7 @@ module _ (c : Controller) (q : Question) (r : Run) (is : IsController c) (set : 
   stops_again : (stop : Replayed) → Stops c q r stop → first (found c q r) (places c q r) ≡ Err stop
   stops_again stop one = by one.before one.parts one.weighed one.held
     where
-      by : (before : List Place) → places c q r ≡ before ++ one.place ∷ one.after → All (NothingPassesAt c q r) before
+      by : (before : List ReplayPlace) → places c q r ≡ before ++ one.place ∷ one.after → All (NothingOverflowsAt c q r) before
           → All (HoldsAt c q r) before → first (found c q r) (places c q r) ≡ Err stop
       by [] parts weighed held =
           shape_stops stop one.place (same_parts fits one.place (places_of_rows c q r) one.after parts).0 one.why
@@ -269,39 +269,39 @@ module _ (c : Controller) (q : Question) (r : Run) (is : IsController c) (set : 
             after = one.after;
             parts = same.1;
             passed = λ k d inside.
-                passes c q r (given_of shaped) (get_or bs k d) (front k d inside)
-                (All-tail (NothingPassesAt c q r) b bs weighed k d inside) (All-tail (HoldsAt c q r) b bs held k d inside);
+                overflows c q r (given_of shaped) (get_or bs k d) (front k d inside)
+                (All-tail (NothingOverflowsAt c q r) b bs weighed k d inside) (All-tail (HoldsAt c q r) b bs held k d inside);
             answer = stops_here stop one.place here one.why;
           })
 
 -- ---- each answer
 
-never_violating : (c : Controller) (q : Question) (place : Place) → broken_at c q place ≡ Violating → ⊥
+never_violating : (c : Controller) (q : Question) (place : ReplayPlace) → broken_at c q place ≡ Violating → ⊥
 never_violating c q fits is = cc
 never_violating c q (obeys p) is = cc
 never_violating c q (opens f) is = cc
 never_violating c q (steps i f) is = cc
 never_violating c q (sends i f) is = cc
 
-never_keeps : (c : Controller) (q : Question) (place : Place) → broken_at c q place ≡ Keeps → ⊥
+never_keeps : (c : Controller) (q : Question) (place : ReplayPlace) → broken_at c q place ≡ Keeps → ⊥
 never_keeps c q fits is = cc
 never_keeps c q (obeys p) is = cc
 never_keeps c q (opens f) is = cc
 never_keeps c q (steps i f) is = cc
 never_keeps c q (sends i f) is = cc
 
-never_wide : (c : Controller) (q : Question) (place : Place) (stuck : Stuck) → broken_at c q place ≡ Wide stuck → ⊥
+never_wide : (c : Controller) (q : Question) (place : ReplayPlace) (stuck : Stuck) → broken_at c q place ≡ Wide stuck → ⊥
 never_wide c q fits stuck is = cc
 never_wide c q (obeys p) stuck is = cc
 never_wide c q (opens f) stuck is = cc
 never_wide c q (steps i f) stuck is = cc
 never_wide c q (sends i f) stuck is = cc
 
--- a run of the controller in which nothing passes that is asked of it
+-- a run of the controller in which nothing overflows that is asked of it
 record IsWeighed (c : Controller) (q : Question) (r : Run) : Type 0 where
   run_of : RunOf c q.setting r
   bounded : Bounded r
-  small : NothingPasses c q r
+  small : NothingOverflows c q r
 
 violating_by : (c : Controller) (q : Question) (r : Run) (t : Result (Unit {0}) Replayed) (v : Result Bool Stuck) → Finds c q r t
     → violation q r ≡ v → answer t v ≡ Violating → IsWeighed c q r × Violates q r
@@ -360,7 +360,7 @@ wide_by c q r stuck (Ok _) (Err other) finds says is =
       run_of = finds.0;
       bounded = finds.1;
       weighed = finds.2;
-      passes = questions.stuck_law q r stuck (says ∙ ap (λ e. let o : Result Bool Stuck = Err e in o) same);
+      overflows = questions.stuck_law q r stuck (says ∙ ap (λ e. let o : Result Bool Stuck = Err e in o) same);
     })
 wide_by c q r stuck (Err stop) v finds says is =
     elim finds.why [
@@ -375,7 +375,7 @@ wide_by c q r stuck (Err stop) v finds says is =
             parts = finds.parts;
             weighed = finds.weighed;
             held = finds.held;
-            passes = subst (IsStuckAt c q r finds.place) same other.2;
+            overflows = subst (IsStuckAt c q r finds.place) same other.2;
           })
     ]
 
@@ -393,12 +393,12 @@ module _ (c : Controller) (q : Question) (r : Run) (is : IsController c) (set : 
       let both = keeps_by c q r (first (found c q r) (places c q r)) (violation q r) (finds c q r is set) refl says in (both.0.run_of, both.1)
 
   -- what is found to violate or to keep is weighed throughout
-  pub violating_weighed : replaying c q r ≡ Violating → Bounded r × NothingPasses c q r
+  pub violating_weighed : replaying c q r ≡ Violating → Bounded r × NothingOverflows c q r
   unfolding replaying
   violating_weighed says =
       let both = violating_by c q r (first (found c q r) (places c q r)) (violation q r) (finds c q r is set) refl says in (both.0.bounded, both.0.small)
 
-  pub keeps_weighed : replaying c q r ≡ Keeps → Bounded r × NothingPasses c q r
+  pub keeps_weighed : replaying c q r ≡ Keeps → Bounded r × NothingOverflows c q r
   unfolding replaying
   keeps_weighed says =
       let both = keeps_by c q r (first (found c q r) (places c q r)) (violation q r) (finds c q r is set) refl says in (both.0.bounded, both.0.small)
@@ -430,7 +430,7 @@ module _ (c : Controller) (q : Question) (r : Run) (is : IsController c) (set : 
   fits_of run_of bounded = record { shaped = run_of.free.shaped; bounded = bounded }
 
   -- a run of the controller that is passed everywhere is answered by the question
-  rows_passed : RunOf c q.setting r → Bounded r → NothingPassesInRun c q r → replaying c q r ≡ of_question (violation q r)
+  rows_passed : RunOf c q.setting r → Bounded r → NothingOverflowsInRun c q r → replaying c q r ≡ of_question (violation q r)
   unfolding replaying
   rows_passed run_of bounded small =
       ap (λ t. answer t (violation q r)) (run_passes c q r is set (fits_of run_of bounded) run_of small)
@@ -445,21 +445,21 @@ module _ (c : Controller) (q : Question) (r : Run) (is : IsController c) (set : 
         parts = one.parts;
         weighed = one.weighed;
         held = one.held;
-        why = inr (stuck, refl, one.passes);
+        why = inr (stuck, refl, one.overflows);
       }))
 
   pub wide_again : (stuck : Stuck) → IsFirstWide c q r stuck → replaying c q r ≡ Wide stuck
   wide_again stuck one =
       elim one [
         | inl before ↦ stuck_in_run stuck before
-        | inr after ↦ rows_passed after.run_of after.bounded after.weighed ∙ ap of_question (questions.stuck_again q r stuck after.passes)
+        | inr after ↦ rows_passed after.run_of after.bounded after.weighed ∙ ap of_question (questions.stuck_again q r stuck after.overflows)
       ]
 
-  pub violation_found_law : RunOf c q.setting r → Bounded r → NothingPasses c q r → Violates q r → replaying c q r ≡ Violating
+  pub violation_found_law : RunOf c q.setting r → Bounded r → NothingOverflows c q r → Violates q r → replaying c q r ≡ Violating
   violation_found_law run_of bounded small violates =
       rows_passed run_of bounded small.in_run ∙ ap of_question (questions.violated_again q r small.in_question violates)
 
-  pub keeping_found_law : RunOf c q.setting r → Bounded r → NothingPasses c q r → (Violates q r → ⊥) → replaying c q r ≡ Keeps
+  pub keeping_found_law : RunOf c q.setting r → Bounded r → NothingOverflows c q r → (Violates q r → ⊥) → replaying c q r ≡ Keeps
   keeping_found_law run_of bounded small keeps =
       rows_passed run_of bounded small.in_run ∙ ap of_question (questions.kept_again q r small.in_question keeps)
 

@@ -7,11 +7,11 @@ use Rattle.ctrl_types.specs.Resolving.{SeenController, controller_seen}
 use Rattle.ctrl_types.specs.declared.controllers.Controller.{Controller}
 use Rattle.ctrl_meaning.specs.Steps.{sending}
 use Rattle.ctrl_meaning.proofs.SeenLaws.{opening_same, sent_same, step_same, unruled}
-use Rattle.question_text.specs.Resolving.{SeenQuestion, question_seen}
+use Rattle.question_text.specs.StatementRules.{SeenQuestion, question_seen}
 use Rattle.question_text.specs.Violation.{violation}
 use Rattle.question_text.specs.declared.questions.Question.{Question}
 use Rattle.question_text.proofs.SeenLaws.{unasked, violation_same}
-use Rattle.trace_replay.specs.Replaying.{Place, fits, obeys, opens, steps, sends, answer, are_stepped, are_within, broken_at, found, places, places_of_row, places_of_rows, replaying, stop_at, weighed_at}
+use Rattle.trace_replay.specs.Replaying.{ReplayPlace, fits, obeys, opens, steps, sends, answer, are_stepped, are_within, broken_at, found, places, places_of_row, places_of_rows, replaying, stop_at, weighed_at}
 use Rattle.trace_replay.specs.declared.replaying.Replayed.{Replayed}
 
 -- what is found first, before the question's conditions are weighed
@@ -25,7 +25,7 @@ module _ (c : Controller) (q : Question) (r : Run) where
   unfolding places_of_rows places_of_row
   places_unasked = refl
 
-  found_unasked : (place : Place) → found c q r place ≡ found c (unasked (question_seen q)) r place
+  found_unasked : (place : ReplayPlace) → found c q r place ≡ found c (unasked (question_seen q)) r place
   unfolding found weighed_at
   found_unasked fits = refl
   found_unasked (obeys p) = refl
@@ -35,8 +35,8 @@ module _ (c : Controller) (q : Question) (r : Run) where
 
 first_unasked : (c : Controller) (q : Question) (r : Run) → first_found c q r ≡ first_found c (unasked (question_seen q)) r
 first_unasked c q r =
-    ap (λ (xs : List Place). first (found c q r) xs) (places_unasked c q r)
-    ∙ ap (λ (test : Place → Result (Unit {0}) Replayed). first test (places c (unasked (question_seen q)) r)) (fun_ext (found_unasked c q r))
+    ap (λ (xs : List ReplayPlace). first (found c q r) xs) (places_unasked c q r)
+    ∙ ap (λ (test : ReplayPlace → Result (Unit {0}) Replayed). first test (places c (unasked (question_seen q)) r)) (fun_ext (found_unasked c q r))
 
 first_same : (c : Controller) (q p : Question) (r : Run) → question_seen q ≡ question_seen p → first_found c q r ≡ first_found c p r
 first_same c q p r same =
@@ -55,14 +55,14 @@ module _ (c d : Controller) (q : Question) (r : Run) (same : controller_seen c �
   unfolding places_of_rows places_of_row
   places_same = ap (λ (x : SeenController). places (unruled x) q r) same
 
-  named_same : (place : Place) → broken_at c q place ≡ broken_at d q place
+  named_same : (place : ReplayPlace) → broken_at c q place ≡ broken_at d q place
   named_same fits = refl
   named_same (obeys p) = refl
   named_same (opens f) = ap (λ (x : SeenController). broken_at (unruled x) q (opens f)) same
   named_same (steps i f) = refl
   named_same (sends i f) = refl
 
-  weighed_same : (place : Place) → weighed_at c q r place ≡ weighed_at d q r place
+  weighed_same : (place : ReplayPlace) → weighed_at c q r place ≡ weighed_at d q r place
   unfolding weighed_at
   weighed_same fits = ap (λ (x : SeenController). weighed_at (unruled x) q r fits) same
   weighed_same (obeys p) = refl
@@ -70,7 +70,7 @@ module _ (c d : Controller) (q : Question) (r : Run) (same : controller_seen c �
   weighed_same (steps i f) = ap are_stepped (step_same c d same q.setting r i f)
   weighed_same (sends i f) = sent_same c d same r (sending q.setting i f)
 
-  found_same : (place : Place) → found c q r place ≡ found d q r place
+  found_same : (place : ReplayPlace) → found c q r place ≡ found d q r place
   unfolding found
   found_same place =
       ap (λ (broken : Replayed). stop_at broken (weighed_at c q r place)) (named_same place)
@@ -79,8 +79,8 @@ module _ (c d : Controller) (q : Question) (r : Run) (same : controller_seen c �
   controllers_same : replaying c q r ≡ replaying d q r
   unfolding replaying
   controllers_same =
-      ap (λ (xs : List Place). answer (first (found c q r) xs) (violation q r)) places_same
-      ∙ ap (λ (test : Place → Result (Unit {0}) Replayed). answer (first test (places d q r)) (violation q r)) (fun_ext found_same)
+      ap (λ (xs : List ReplayPlace). answer (first (found c q r) xs) (violation q r)) places_same
+      ∙ ap (λ (test : ReplayPlace → Result (Unit {0}) Replayed). answer (first test (places d q r)) (violation q r)) (fun_ext found_same)
 
 pub replaying_same : (c d : Controller) (q p : Question) (r : Run) → controller_seen c ≡ controller_seen d → question_seen q ≡ question_seen p
     → replaying c q r ≡ replaying d p r

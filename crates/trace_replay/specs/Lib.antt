@@ -1,3 +1,4 @@
 pub mod Replaying
 pub mod Meaning
 pub mod Example
+pub mod FittedRuns

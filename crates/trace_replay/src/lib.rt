@@ -5,6 +5,7 @@
 //! run, a trace, is read and printed by `trace_text`, whose calls are given on.
 #![tactic(auto)]
 
+mod fitted;
 mod replaying;
 #[cfg(test)]
 mod tests;

@@ -1,23 +1,19 @@
 //! Whether a run is one of a controller's flows on an admitted path, and whether it violates the question.
-ghost use Rattle.std.specs.Prelude.{◌≡◌, ◌↔◌, ◌⊎◌, ◌<◌, ◌≤◌, ◌++◌, ℕ, MatchResult, length, map};
-ghost use Rattle.weighing.specs.First.{first};
+ghost use Rattle.std.specs.Prelude.{◌≡◌, ◌↔◌, ◌⊎◌, ℕ, length};
 ghost use Rattle.whole.specs.declared.answers.Stuck.{Stuck};
 ghost use Rattle.run_rows.specs.Runs.{Bounded};
-ghost use Rattle.path_server.specs.Places.{places_of_row as rules_of_row};
 ghost use Rattle.ctrl_types.specs.Limits.{IsController};
-ghost use Rattle.ctrl_meaning.specs.Limits.{FitsBoth, IsControlled};
-ghost use Rattle.ctrl_meaning.specs.Opening.{opening_row};
 ghost use Rattle.question_text.specs.Limits.{CanAsk, IsQuestion};
 ghost use Rattle.question_text.specs.Meaning.{Violates};
 ghost use Rattle.question_text.specs.Violation.{violation};
-ghost use Rattle.trace_replay.specs.Replaying.{each_flow, found, obeys, of_question, opens, places_of_flows, places_of_row, places_of_rows, replaying, sends, steps};
+ghost use Rattle.trace_replay.specs.Replaying.{of_question, replaying};
 ghost use Rattle.ctrl_meaning.specs.RunOf.{RunOf};
-ghost use Rattle.trace_replay.specs.Meaning.{IsFirstBroken, IsFirstWide, NothingPasses};
+ghost use Rattle.trace_replay.specs.Meaning.{IsFirstBroken, IsFirstWide, NothingOverflows};
 ghost use Rattle.trace_replay.specs.declared.replaying.RunRule.{RunRule};
 
-use ctrl_meaning::{OpeningHolds, StepHolds, opening_holds, step_holds};
+use crate::fitted::FittedRun;
 use ctrl_types::Controller;
-use path_server::Admit;
+use path_server::PathScales;
 use question_text::{Question, violates};
 use run_rows::Run;
 use whole::Stuck;
@@ -46,7 +42,7 @@ pub enum Replayed {
     Keeps,
     /// The first rule that is broken, with its row, and its flow or 0; row 0 and flow 0 for the shape.
     Broken { rule: RunRule, row: u32, flow: u32 },
-    /// A comparison came before any broken rule whose exact weighing passes 128 bits.
+    /// A comparison came before any broken rule whose exact weighing overflows 128 bits.
     Wide(Stuck),
 }
 
@@ -65,17 +61,17 @@ pub fn replay(controller: &Controller, question: &Question, run: &Run) -> Replay
         ↔ IsFirstBroken controller.now question.now run.now rule row flow }
     ensures wide { (stuck : Stuck) → (result ≡ Replayed.Wide stuck) ↔ IsFirstWide controller.now question.now run.now stuck }
 
-    // Where an answer is about the question, no weighing passes.
-    ensures violating_weighed { result ≡ Replayed.Violating → Bounded run.now × NothingPasses controller.now question.now run.now }
-    ensures keeps_weighed { result ≡ Replayed.Keeps → Bounded run.now × NothingPasses controller.now question.now run.now }
+    // Where an answer is about the question, no weighing overflows.
+    ensures violating_weighed { result ≡ Replayed.Violating → Bounded run.now × NothingOverflows controller.now question.now run.now }
+    ensures keeps_weighed { result ≡ Replayed.Keeps → Bounded run.now × NothingOverflows controller.now question.now run.now }
 
-    // A run of the controller's flows is found to be one, unless a weighing passes.
-    ensures violation_found { RunOf controller.now question.now.setting run.now → Bounded run.now → NothingPasses controller.now question.now run.now
+    // A run of the controller's flows is found to be one, unless a weighing overflows.
+    ensures violation_found { RunOf controller.now question.now.setting run.now → Bounded run.now → NothingOverflows controller.now question.now run.now
         → Violates question.now run.now → result ≡ Replayed.Violating }
-    ensures keeping_found { RunOf controller.now question.now.setting run.now → Bounded run.now → NothingPasses controller.now question.now run.now
+    ensures keeping_found { RunOf controller.now question.now.setting run.now → Bounded run.now → NothingOverflows controller.now question.now run.now
         → (Violates question.now run.now → ⊥) → result ≡ Replayed.Keeps }
 
-    // Whatever passes, it is never found to break a rule, nor a violation to be none, nor the other way round.
+    // Whatever overflows, it is never found to break a rule, nor a violation to be none, nor the other way round.
     ensures violation_answered { RunOf controller.now question.now.setting run.now → Bounded run.now → Violates question.now run.now
         → (result ≡ Replayed.Violating) ⊎ ((stuck : Stuck) × (result ≡ Replayed.Wide stuck)) }
     ensures keeping_answered { RunOf controller.now question.now.setting run.now → Bounded run.now → (Violates question.now run.now → ⊥)
@@ -93,9 +89,20 @@ fn examine(controller: &Controller, question: &Question, run: &Run) -> Replayed
     let states = controller.states.len() as u32;
     let shape = question.setting.shape(states, controller.delay_max);
     if !run.fits(&shape) {
-        return broken(RunRule::Shape, 0, 0);
+        return Replayed::Broken {
+            rule: RunRule::Shape,
+            row: 0,
+            flow: 0,
+        };
     }
-    match examine_rows(controller, question, run) {
+    let fitted = FittedRun {
+        controller,
+        question,
+        run,
+        opening: shape.h,
+        scales: PathScales::of(&question.setting.path),
+    };
+    match fitted.examine_rows() {
         Ok(()) => answer_question(question, run),
         Err(stop) => stop,
     }
@@ -111,180 +118,4 @@ fn answer_question(question: &Question, run: &Run) -> Replayed
         Ok(false) => Replayed::Keeps,
         Err(stuck) => Replayed::Wide(stuck),
     }
-}
-
-/// The rows in order.
-fn examine_rows(controller: &Controller, question: &Question, run: &Run) -> Result<(), Replayed>
-    requires controller_in { IsController controller.now }
-    requires question_in { IsQuestion (length controller.now.states) question.now }
-    requires run_in { FitsBoth controller.now question.now.setting run.now }
-    ensures { result ≡ first (found controller.now question.now run.now) (places_of_rows controller.now question.now run.now) }
-{
-    for row in 0..run.row_count() {
-        examine_row(controller, question, run, row)?;
-    }
-    Ok(())
-}
-
-/// On a row, the rules of the path, and then what the flows do.
-fn examine_row(
-    controller: &Controller,
-    question: &Question,
-    run: &Run,
-    row: u32,
-) -> Result<(), Replayed>
-    requires controller_in { IsController controller.now }
-    requires question_in { IsQuestion (length controller.now.states) question.now }
-    requires run_in { FitsBoth controller.now question.now.setting run.now }
-    requires row_in { row < length run.now.rows }
-    ensures { result ≡ first (found controller.now question.now run.now) (places_of_row controller.now question.now run.now row) }
-{
-    examine_rules(controller, question, run, row)?;
-    examine_flows(controller, question, run, row)
-}
-
-/// The rules of the path on a row.
-fn examine_rules(
-    controller: &Controller,
-    question: &Question,
-    run: &Run,
-    row: u32,
-) -> Result<(), Replayed>
-    requires controller_in { IsController controller.now }
-    requires question_in { IsQuestion (length controller.now.states) question.now }
-    requires run_in { FitsBoth controller.now question.now.setting run.now }
-    requires row_in { row < length run.now.rows }
-    ensures { result ≡ first (found controller.now question.now run.now) (map obeys (rules_of_row run.now row)) }
-{
-    match path_server::examine_row(&question.setting.path, run, row) {
-        Ok(()) => Ok(()),
-        Err(Admit::Yes) => Ok(()),
-        Err(Admit::Broken { rule, row, flow }) => Err(broken(RunRule::P(rule), row, flow)),
-        Err(Admit::Wide(stuck)) => Err(Replayed::Wide(stuck)),
-    }
-}
-
-/// On the opening row, where the states begin; on a controlled row, the flows' steps.
-fn examine_flows(
-    controller: &Controller,
-    question: &Question,
-    run: &Run,
-    row: u32,
-) -> Result<(), Replayed>
-    requires controller_in { IsController controller.now }
-    requires question_in { IsQuestion (length controller.now.states) question.now }
-    requires run_in { FitsBoth controller.now question.now.setting run.now }
-    requires row_in { row < length run.now.rows }
-    ensures { result ≡ first (found controller.now question.now run.now)
-        (places_of_flows (opening_row controller.now question.now.setting) question.now.setting.flows row) }
-{
-    let states = controller.states.len() as u32;
-    let opening = question.setting.shape(states, controller.delay_max).h;
-    if row < opening {
-        return Ok(());
-    }
-    if row == opening {
-        return examine_openings(controller, question, run, row);
-    }
-    examine_steps(controller, question, run, row)
-}
-
-/// Whether the states of each flow lie within their ranges on the opening row.
-fn examine_openings(
-    controller: &Controller,
-    question: &Question,
-    run: &Run,
-    row: u32,
-) -> Result<(), Replayed>
-    requires controller_in { IsController controller.now }
-    requires question_in { IsQuestion (length controller.now.states) question.now }
-    requires run_in { FitsBoth controller.now question.now.setting run.now }
-    requires row_is { row ≡ opening_row controller.now question.now.setting }
-    ensures { result ≡ first (found controller.now question.now run.now) (each_flow opens question.now.setting.flows) }
-{
-    for index in 0..question.setting.flows {
-        examine_opening(controller, question, run, row, index + 1)?;
-    }
-    Ok(())
-}
-
-/// Whether the states of a flow lie within their ranges on the opening row.
-#[tactic(auto, unfolding(crate::specs::Replaying::found, crate::specs::Replaying::weighed_at))]
-fn examine_opening(
-    controller: &Controller,
-    question: &Question,
-    run: &Run,
-    row: u32,
-    flow: u32,
-) -> Result<(), Replayed>
-    requires controller_in { IsController controller.now }
-    requires question_in { IsQuestion (length controller.now.states) question.now }
-    requires run_in { FitsBoth controller.now question.now.setting run.now }
-    requires row_is { row ≡ opening_row controller.now question.now.setting }
-    requires flow_from { 1 ≤ flow }
-    requires flow_to { flow ≤ question.now.setting.flows }
-    ensures { result ≡ found controller.now question.now run.now (opens flow) }
-{
-    match opening_holds(controller, &question.setting, run, flow) {
-        OpeningHolds::Yes => Ok(()),
-        OpeningHolds::State { state: _ } => Err(broken(RunRule::Opening, row, flow)),
-        OpeningHolds::Wide(stuck) => Err(Replayed::Wide(stuck)),
-    }
-}
-
-/// The steps of all flows on a controlled row, and then what they send. Each flow is weighed once, so what is amiss with
-/// an arrival waits until the states of all flows are known to be those of a step.
-fn examine_steps(
-    controller: &Controller,
-    question: &Question,
-    run: &Run,
-    row: u32,
-) -> Result<(), Replayed>
-    requires controller_in { IsController controller.now }
-    requires question_in { IsQuestion (length controller.now.states) question.now }
-    requires run_in { FitsBoth controller.now question.now.setting run.now }
-    requires row_in { IsControlled controller.now question.now.setting row }
-    ensures { result ≡ first (found controller.now question.now run.now)
-        (each_flow (steps row) question.now.setting.flows ++ each_flow (sends row) question.now.setting.flows) }
-{
-    let mut sent = Ok(());
-    for index in 0..question.setting.flows {
-        let sends = examine_step(controller, question, run, row, index + 1)?;
-        sent = sent.and(sends);
-    }
-    sent
-}
-
-/// Whether the states are those of a step of the flow; and within, whether the flow sends what it may.
-fn examine_step(
-    controller: &Controller,
-    question: &Question,
-    run: &Run,
-    row: u32,
-    flow: u32,
-) -> Result<Result<(), Replayed>, Replayed>
-    requires controller_in { IsController controller.now }
-    requires question_in { IsQuestion (length controller.now.states) question.now }
-    requires run_in { FitsBoth controller.now question.now.setting run.now }
-    requires row_in { IsControlled controller.now question.now.setting row }
-    requires flow_from { 1 ≤ flow }
-    requires flow_to { flow ≤ question.now.setting.flows }
-    ensures { MatchResult result
-        (λ sent. (found controller.now question.now run.now (steps row flow) ≡ Ok tt)
-        × (sent ≡ found controller.now question.now run.now (sends row flow)))
-        (λ stop. found controller.now question.now run.now (steps row flow) ≡ Err stop) }
-{
-    match step_holds(controller, &question.setting, run, row, flow) {
-        StepHolds::Yes { rule: _ } => Ok(Ok(())),
-        StepHolds::State { state: _ } => Err(broken(RunRule::Step, row, flow)),
-        StepHolds::Arrival => Ok(Err(broken(RunRule::Send, row, flow))),
-        StepHolds::StepWide(stuck) => Err(Replayed::Wide(stuck)),
-        StepHolds::SendWide(stuck) => Ok(Err(Replayed::Wide(stuck))),
-    }
-}
-
-fn broken(rule: RunRule, row: u32, flow: u32) -> Replayed
-    ensures { result ≡ Replayed.Broken rule row flow }
-{
-    Replayed::Broken { rule, row, flow }
 }

@@ -13,7 +13,7 @@ use weighing::Num;
 use whole::Pair;
 
 /// A controller without states that lets two be under way.
-#[tactic(auto, using(whole::proofs::Passing::signed))]
+#[tactic(auto, using(whole::proofs::Overflow::signed))]
 fn controller(alloc: Global) -> Result<Controller, AllocError>
     ensures { IfOk result (λ c. c ≡ example.controller) }
 {

@@ -14,7 +14,7 @@ use Rattle.ctrl_types.specs.declared.expressions.Lin.{Lin}
 use Rattle.ctrl_meaning.specs.Expressions.{IsTerm, scale_of_two, scale_with}
 use Rattle.ctrl_meaning.specs.Limits.{IsControlled}
 use Rattle.ctrl_meaning.specs.Steps.{sending, set_of, stepping}
-use Rattle.ctrl_meaning.specs.declared.readings.Reading.{Reading}
+use Rattle.ctrl_meaning.specs.declared.readings.ReadPoint.{ReadPoint}
 use Rattle.ctrl_meaning.proofs.Readiness.{HasDens, HasNums, are_scaled, at_most, has_den}
 use Rattle.ctrl_meaning.proofs.Values.{AreScaled, is_scale, scale_divides}
 use Rattle.ctrl_meaning.specs.Flows.{shape_for}
@@ -38,22 +38,22 @@ lin_ready n d lin is nums dens = record {
 }
 
 -- where an expression is read: the states there are the controller's, and the common denominator is small
-record IsPlace (s : Shape) (at : Reading) (n d : ℕ) : Type 0 where
+record IsPlace (s : Shape) (at : ReadPoint) (n d : ℕ) : Type 0 where
   states_are : state_count s at.states ≡ n
   some : 0 < d
   small : d ≤ 1000000
 
-can_add : (s : Shape) (at : Reading) (n d : ℕ) (lin : Lin) → IsPlace s at n d → IsReady n d lin → CanAdd s at lin
+can_add : (s : Shape) (at : ReadPoint) (n d : ℕ) (lin : Lin) → IsPlace s at n d → IsReady n d lin → CanAdd s at lin
 can_add s at n d lin place ready =
     record { terms_to = ready.terms_to; terms_in = subst (λ m. All (IsTerm m) lin.terms) (sym place.states_are) ready.terms_in }
 
-can_sum : (s : Shape) (at : Reading) (n d : ℕ) (lin : Lin) → IsPlace s at n d → IsReady n d lin → CanSum s at lin
+can_sum : (s : Shape) (at : ReadPoint) (n d : ℕ) (lin : Lin) → IsPlace s at n d → IsReady n d lin → CanSum s at lin
 can_sum s at n d lin place ready = record {
   lin_in = can_add s at n d lin place ready;
   scale_to = at_most (scale_with 1 lin.terms) d place.some place.small (scale_divides n 1 d lin.terms (omega arith) ready.terms_in (one-dvd d) ready.scaled);
 }
 
-can_compare : (s : Shape) (at : Reading) (n d : ℕ) (left right : Lin) → IsPlace s at n d → IsReady n d left → IsReady n d right → CanCompare s at left right
+can_compare : (s : Shape) (at : ReadPoint) (n d : ℕ) (left right : Lin) → IsPlace s at n d → IsReady n d left → IsReady n d right → CanCompare s at left right
 can_compare s at n d left right place one two =
     let first = scale_divides n 1 d left.terms (omega arith) one.terms_in (one-dvd d) one.scaled in
     let some = (is_scale n 1 left.terms (omega arith) one.terms_in).some in
@@ -63,7 +63,7 @@ can_compare s at n d left right place one two =
       scale_to = at_most (scale_of_two left right) d place.some place.small (scale_divides n (scale_with 1 left.terms) d right.terms some two.terms_in first two.scaled);
     }
 
-can_test : (s : Shape) (at : Reading) (n d most : ℕ) (t : Test) → IsPlace s at n d → most ≤ at.heard
+can_test : (s : Shape) (at : ReadPoint) (n d most : ℕ) (t : Test) → IsPlace s at n d → most ≤ at.heard
     → EachExpr (IsLin n) t → EachExpr HasNums t → EachExpr (HasDens d) t → EachDelay (λ k. k ≤ most) t → CanTest s at t
 can_test s at n d most always place back is nums dens delays = tt
 can_test s at n d most never place back is nums dens delays = tt
@@ -78,7 +78,7 @@ can_test s at n d most end_of_any place back is nums dens delays = tt
 can_test s at n d most (any_of t rest) place back is nums dens delays =
     (can_test s at n d most t place back is.0 nums.0 dens.0 delays.0, can_test s at n d most rest place back is.1 nums.1 dens.1 delays.1)
 
-can_set : (s : Shape) (at : Reading) (n d : ℕ) (o : Option Lin) → IsPlace s at n d
+can_set : (s : Shape) (at : ReadPoint) (n d : ℕ) (o : Option Lin) → IsPlace s at n d
     → OptionalLin (IsLin n) o → OptionalLin HasNums o → OptionalLin (HasDens d) o → CanSet s at o
 can_set s at n d None place is nums dens = tt
 can_set s at n d (Some lin) place is nums dens = can_sum s at n d lin place (lin_ready n d lin is nums dens)
@@ -115,7 +115,7 @@ pub can_step : (c : Controller) (s : Setting) (i f : ℕ) → IsController c →
     → CanStep (shape_for c s) (stepping s i f) c
 can_step c s i f is set controlled from to =
     let shape : Shape = shape_for c s in
-    let at : Reading = stepping s i f in
+    let at : ReadPoint = stepping s i f in
     let n : ℕ = length c.states in
     let d : ℕ = unsigned_abs c.den in
     let after = controlled.after_opening in
@@ -142,7 +142,7 @@ pub can_send : (c : Controller) (s : Setting) (i f : ℕ) → IsController c →
     → CanSend (shape_for c s) (sending s i f) c
 can_send c s i f is set controlled from to =
     let shape : Shape = shape_for c s in
-    let at : Reading = sending s i f in
+    let at : ReadPoint = sending s i f in
     let n : ℕ = length c.states in
     let d : ℕ = unsigned_abs c.den in
     let after = controlled.after_opening in

@@ -36,7 +36,7 @@ use Rattle.ctrl_meaning.specs.Limits.{IsControlled}
 use Rattle.ctrl_meaning.specs.Opening.{declared_state, no_state, opening_row, range_claims}
 use Rattle.ctrl_meaning.specs.Sends.{growth_terms, rate_terms, send_claim, window_terms}
 use Rattle.ctrl_meaning.specs.Steps.{sending, set_claim, set_of, stepping}
-use Rattle.ctrl_meaning.specs.declared.readings.Reading.{Reading}
+use Rattle.ctrl_meaning.specs.declared.readings.ReadPoint.{ReadPoint}
 use Rattle.path_server.proofs.AdmissionLaws.{all_below, all_flat_map}
 use Rattle.claim_values.proofs.ClaimLists.{conjunction_leaves, flows_of_each}
 use Rattle.ctrl_meaning.proofs.FlowColumns.{flows_over}
@@ -59,20 +59,20 @@ two_parts k of other small =
 one_part : (k : ℤ) (of : Subject) → unsigned_abs k ≤ 10 ^ 13 → IsShort 2 (part k of ∷ [])
 one_part k of small = wider 1 2 (part k of ∷ []) (omega arith) (one_more 0 k of [] small none_short)
 
-source_short : (at : Reading) (k : ℤ) (of : Source) → unsigned_abs k ≤ 10 ^ 13 → IsShort 2 (source_terms part at k of)
+source_short : (at : ReadPoint) (k : ℤ) (of : Source) → unsigned_abs k ≤ 10 ^ 13 → IsShort 2 (source_terms part at k of)
 source_short at k One small = one_part k _ small
 source_short at k (StateSource j) small = one_part k _ small
 source_short at k Acked small = two_parts k _ _ small
 source_short at k Lost small = two_parts k _ _ small
 
-lin_short : (at : Reading) (side : Side) (n m : ℕ) (ts : List LinTerm) → m ≤ 1000000 → All (IsTerm n) ts → IsShort (length ts * 2) (lin_terms part at side m ts)
+lin_short : (at : ReadPoint) (side : Side) (n m : ℕ) (ts : List LinTerm) → m ≤ 1000000 → All (IsTerm n) ts → IsShort (length ts * 2) (lin_terms part at side m ts)
 lin_short at side n m [] small each = none_short
 lin_short at side n m (t ∷ ts) small each =
     let here = source_short at (scaled side m t.coef) t.of (scaled_size side m t.coef (All-head (IsTerm n) t ts each).coef_in small) in
     subst (λ k. IsShort k (lin_terms part at side m (t ∷ ts))) (let same : 2 + length ts * 2 ≡ suc (length ts) * 2 = omega arith in same)
     (both_short 2 (length ts * 2) (term_terms part at side m t) (lin_terms part at side m ts) here (lin_short at side n m ts small (All-tail (IsTerm n) t ts each)))
 
-side_short : (s : Shape) (at : Reading) (side : Side) (m : ℕ) (lin : Lin) → m ≤ 1000000 → CanAdd s at lin → IsShort 32 (lin_terms part at side m lin.terms)
+side_short : (s : Shape) (at : ReadPoint) (side : Side) (m : ℕ) (lin : Lin) → m ≤ 1000000 → CanAdd s at lin → IsShort 32 (lin_terms part at side m lin.terms)
 side_short s at side m lin small can =
     let few = can.terms_to in
     wider (length lin.terms * 2) 32 (lin_terms part at side m lin.terms) (omega arith) (lin_short at side _ m lin.terms small can.terms_in)
@@ -83,7 +83,7 @@ delay_short : (a b c : Subject) → IsShort 3 (part (pos 1) a ∷ part (negsuc 0
 delay_short a b c =
     one_more 2 (pos 1) a _ (omega (arith, ints)) (one_more 1 (negsuc 0) b _ (omega (arith, ints)) (one_more 0 (negsuc 0) c [] (omega (arith, ints)) none_short))
 
-leaf_small : (s : Shape) (at : Reading) (l : Leaf Lin ℕ) → CanAsk s at l → IsSmall (leaf_claim part at l)
+leaf_small : (s : Shape) (at : ReadPoint) (l : Leaf Lin ℕ) → CanAsk s at l → IsSmall (leaf_claim part at l)
 leaf_small s at (compares left rel right) can =
     let m : ℕ = scale_of_two left right in
     small_of_short 64 _ rel (omega arith)
@@ -91,10 +91,10 @@ leaf_small s at (compares left rel right) can =
     (side_short s at Left m left can.scale_to can.left_in) (side_short s at Right m right can.scale_to can.right_in))
 leaf_small s at (delayed k) can = small_of_short 3 _ _ (omega arith) (delay_short _ _ _)
 
-test_small : (s : Shape) (at : Reading) (t : Test) → CanTest s at t → EachLeaf IsSmall (test_claim part at t)
+test_small : (s : Shape) (at : ReadPoint) (t : Test) → CanTest s at t → EachLeaf IsSmall (test_claim part at t)
 test_small s at t can = each_with (CanAsk s at) IsSmall (leaf_claim part at) (leaf_small s at) t can
 
-set_small : (s : Shape) (at : Reading) (j : ℕ) (o : Option Lin) → CanSet s at o → EachLeaf IsSmall (set_claim part at j o)
+set_small : (s : Shape) (at : ReadPoint) (j : ℕ) (o : Option Lin) → CanSet s at o → EachLeaf IsSmall (set_claim part at j o)
 set_small s at j None can =
     small_of_short 2 _ _ (omega arith) (one_more 1 (pos 1) _ _ (omega (arith, ints)) (one_more 0 (negsuc 0) _ [] (omega (arith, ints)) none_short))
 set_small s at j (Some lin) can =
@@ -103,10 +103,10 @@ set_small s at j (Some lin) can =
     small_of_short 33 _ _ (omega arith)
     (one_more 32 (pos m) (of_state at.row at.flow j) (lin_terms part at Right m lin.terms) (omega (arith, ints)) (side_short s at Right m lin can.scale_to can.lin_in))
 
-guard_small : (s : Shape) (at : Reading) (c : Controller) (k : ℕ) → CanStep s at c → k < length c.rules → EachLeaf IsSmall (guard_claim part c at k)
+guard_small : (s : Shape) (at : ReadPoint) (c : Controller) (k : ℕ) → CanStep s at c → k < length c.rules → EachLeaf IsSmall (guard_claim part c at k)
 guard_small s at c k can inside = test_small s at (test_of (rule_of c k).guard) (can.guards k inside)
 
-fires_small : (s : Shape) (at : Reading) (c : Controller) (k : ℕ) → CanStep s at c → k < length c.rules → EachLeaf IsSmall (fires_claim part c at k)
+fires_small : (s : Shape) (at : ReadPoint) (c : Controller) (k : ℕ) → CanStep s at c → k < length c.rules → EachLeaf IsSmall (fires_claim part c at k)
 fires_small s at c k can inside =
     let P : Symbolic → Type 0 = EachLeaf IsSmall in
     let negated : ℕ → Symbolic = λ j. opposite (guard_claim part c at j) in
@@ -116,14 +116,14 @@ fires_small s at c k can inside =
     (All-map P negated (below k) (all_below (λ j. P (negated j)) k (λ j less. guard_small s at c j can (let among : j < length c.rules = omega arith in among))))
     (All-cons P own [] (guard_small s at c k can inside) (All-nil P)))
 
-sets_small : (s : Shape) (at : Reading) (c : Controller) (k : ℕ) → CanStep s at c → k < length c.rules → EachLeaf IsSmall (sets_claim part c at k)
+sets_small : (s : Shape) (at : ReadPoint) (c : Controller) (k : ℕ) → CanStep s at c → k < length c.rules → EachLeaf IsSmall (sets_claim part c at k)
 sets_small s at c k can inside =
     let P : Symbolic → Type 0 = EachLeaf IsSmall in
     let set : ℕ → Symbolic = λ j. set_claim part at j (set_of c k j) in
     conjunction_leaves IsSmall (map set (below (length c.states)))
     (All-map P set (below (length c.states)) (all_below (λ j. P (set j)) (length c.states) (λ j among. set_small s at j (set_of c k j) (can.sets k j inside among))))
 
-step_small : (s : Shape) (at : Reading) (c : Controller) → CanStep s at c → All (EachLeaf IsSmall) (step_claims part c at)
+step_small : (s : Shape) (at : ReadPoint) (c : Controller) → CanStep s at c → All (EachLeaf IsSmall) (step_claims part c at)
 step_small s at c can =
     let P : Symbolic → Type 0 = EachLeaf IsSmall in
     All-map P (rule_claim part c at) (below (length c.rules))
@@ -131,7 +131,7 @@ step_small s at c can =
 
 -- ---- what is sent, and the opening
 
-growth_short : (at : Reading) → IsShort 2 (growth_terms part at)
+growth_short : (at : ReadPoint) → IsShort 2 (growth_terms part at)
 growth_short at = one_more 1 (pos 1) _ _ (omega (arith, ints)) (one_more 0 (negsuc 0) _ [] (omega (arith, ints)) none_short)
 
 unit_size : (m : ℕ) → m ≤ 1000000 → unsigned_abs (pos m) ≤ 10 ^ 13
@@ -140,20 +140,20 @@ unit_size m small = omega (arith, ints)
 minus_size : (m : ℕ) → m ≤ 1000000 → unsigned_abs (neg_ℤ (pos m)) ≤ 10 ^ 13
 minus_size m small = let same = unsigned_abs-neg_ℤ (pos m) in let one = unit_size m small in omega (arith, same, one)
 
-window_short : (s : Shape) (at : Reading) (lin : Lin) → CanSum s at lin → IsShort 35 (window_terms part at lin)
+window_short : (s : Shape) (at : ReadPoint) (lin : Lin) → CanSum s at lin → IsShort 35 (window_terms part at lin)
 window_short s at lin can =
     let m : ℕ = scale_with 1 lin.terms in
     one_more 34 (pos m) _ _ (unit_size m can.scale_to)
     (one_more 33 (neg_ℤ (pos m)) _ _ (minus_size m can.scale_to)
     (one_more 32 (neg_ℤ (pos m)) _ _ (minus_size m can.scale_to) (side_short s at Right m lin can.scale_to can.lin_in)))
 
-rate_short : (s : Shape) (at : Reading) (lin : Lin) → CanSum s at lin → IsShort 34 (rate_terms part at lin)
+rate_short : (s : Shape) (at : ReadPoint) (lin : Lin) → CanSum s at lin → IsShort 34 (rate_terms part at lin)
 rate_short s at lin can =
     let m : ℕ = scale_with 1 lin.terms in
     one_more 33 (pos m) _ _ (unit_size m can.scale_to)
     (one_more 32 (neg_ℤ (pos m)) _ _ (minus_size m can.scale_to) (side_short s at Right m lin can.scale_to can.lin_in))
 
-send_small : (s : Shape) (at : Reading) (window : Lin) (rate : Option Lin) → CanSum s at window → CanSet s at rate → EachLeaf IsSmall (send_claim part at window rate)
+send_small : (s : Shape) (at : ReadPoint) (window : Lin) (rate : Option Lin) → CanSum s at window → CanSet s at rate → EachLeaf IsSmall (send_claim part at window rate)
 send_small s at window None can paced = (growth, (allowed, (growth, allowed)))
   where
     growth : {rel : Rel5} → IsSmall (record { terms = growth_terms part at; rel = rel })

@@ -1,6 +1,4 @@
 pub mod ClaimLaws
-pub mod ExamplePaths
-pub mod ExampleShapes
 pub mod FlowMeaning
 pub mod FlowReady
 pub mod FlowSizes

@@ -15,7 +15,7 @@ use Rattle.question_text.specs.Claims.{CanCompare, CanTake as CanTakeCondition, 
 use Rattle.question_text.specs.Conditions.{Comparison, Condition, Sides, compares, condition_of}
 use Rattle.question_text.specs.Expressions.{condition_claim, leaf_claim, lin_terms, scale_of_two, term_terms}
 use Rattle.question_text.specs.Limits.{IsTerm}
-use Rattle.question_text.specs.Names.{flow_terms, of_terms, row_at}
+use Rattle.question_text.specs.NameMeanings.{flow_terms, of_terms, row_at}
 use Rattle.question_text.specs.declared.conditions.Of.{Of}
 use Rattle.question_text.specs.declared.conditions.Of.TheVariants.{One, Credit, W, A, S, L, X}
 use Rattle.question_text.specs.declared.conditions.QCond.{QCond}

@@ -9,11 +9,11 @@ use Rattle.ctrl_types.specs.Tests.{test_of}
 use Rattle.ctrl_types.specs.declared.gates.Gate.{Gate}
 pub use Rattle.ctrl_meaning.specs.Flows.{shape_for}
 use Rattle.ctrl_meaning.specs.Guards.{test_claim}
-use Rattle.ctrl_meaning.specs.declared.readings.Reading.{Reading}
+use Rattle.ctrl_meaning.specs.declared.readings.ReadPoint.{ReadPoint}
 use Rattle.unroll.specs.ClaimFormulas.{claim_formula}
 use Rattle.unroll.specs.Sums.{comparison, summed}
 
-abbrev pub gate_tree : Shape → Reading → Gate → Tree Comparison
+abbrev pub gate_tree : Shape → ReadPoint → Gate → Tree Comparison
 gate_tree s at gate = claim_formula s (test_claim part at (test_of gate))
 
 -- the sum of these parts stands so to 0

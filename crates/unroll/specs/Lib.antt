@@ -7,4 +7,3 @@ pub mod QuestionFormulas
 pub mod Shapes
 pub mod Sizes
 pub mod Problems
-pub mod Example

@@ -18,7 +18,7 @@ use crate::openings::plus_opening;
 use crate::sends::plus_send;
 use crate::steps::plus_steps;
 use clause_form::Formula;
-use ctrl_meaning::Reading;
+use ctrl_meaning::ReadPoint;
 use ctrl_types::Controller;
 use path_server::Setting;
 use question_text::Question;
@@ -132,7 +132,7 @@ fn step_formulas(
 {
     let mut formulas = Vec::new(alloc);
     for index in 0..setting.flows {
-        let at = Reading {
+        let at = ReadPoint {
             row,
             flow: index + 1,
             states: row - 1,
@@ -160,7 +160,7 @@ fn plus_sends(
 {
     let mut formulas = formulas;
     for index in 0..setting.flows {
-        let at = Reading {
+        let at = ReadPoint {
             row,
             flow: index + 1,
             states: row,

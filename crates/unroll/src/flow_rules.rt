@@ -128,7 +128,7 @@ fn flow_grows(
 }
 
 /// `P2`.
-#[tactic(auto, using(whole::proofs::Passing::signed), unfolding(path_server::specs::Claims::service_claims))]
+#[tactic(auto, using(whole::proofs::Overflow::signed), unfolding(path_server::specs::Claims::service_claims))]
 pub(crate) fn service(
     alloc: Global,
     formulas: Vec<Formula>,
@@ -152,7 +152,7 @@ pub(crate) fn service(
 }
 
 /// `P6`.
-#[tactic(auto, using(whole::proofs::Passing::signed), unfolding(path_server::specs::Claims::acceptance_claims))]
+#[tactic(auto, using(whole::proofs::Overflow::signed), unfolding(path_server::specs::Claims::acceptance_claims))]
 pub(crate) fn acceptance(
     alloc: Global,
     formulas: Vec<Formula>,
@@ -178,7 +178,7 @@ pub(crate) fn acceptance(
 }
 
 /// That the entry is 0.
-#[tactic(auto, using(whole::proofs::Passing::signed))]
+#[tactic(auto, using(whole::proofs::Overflow::signed))]
 fn is_zero(alloc: Global, shape: &Shape, of: Entry) -> Result<Formula, NoMemory>
     requires within { IsWithin shape.now }
     requires stands { HasEntry shape.now of }
@@ -188,7 +188,7 @@ fn is_zero(alloc: Global, shape: &Shape, of: Entry) -> Result<Formula, NoMemory>
 }
 
 /// That the entry is at least 0.
-#[tactic(auto, using(whole::proofs::Passing::signed))]
+#[tactic(auto, using(whole::proofs::Overflow::signed))]
 fn not_negative(alloc: Global, shape: &Shape, of: Entry) -> Result<Formula, NoMemory>
     requires within { IsWithin shape.now }
     requires stands { HasEntry shape.now of }
@@ -198,7 +198,7 @@ fn not_negative(alloc: Global, shape: &Shape, of: Entry) -> Result<Formula, NoMe
 }
 
 /// That the entry doesn't fall from the old to the new.
-#[tactic(auto, using(whole::proofs::Passing::signed))]
+#[tactic(auto, using(whole::proofs::Overflow::signed))]
 fn no_fall(alloc: Global, shape: &Shape, old: Entry, new: Entry) -> Result<Formula, NoMemory>
     requires within { IsWithin shape.now }
     requires old_stands { HasEntry shape.now old }

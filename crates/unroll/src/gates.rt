@@ -13,7 +13,7 @@ use crate::formulas::{all, any, not, with};
 use crate::lin_sums::comparison;
 use crate::sums::Sum;
 use clause_form::Formula;
-use ctrl_meaning::Reading;
+use ctrl_meaning::ReadPoint;
 use ctrl_types::Gate;
 use linear_form::Rel;
 use run_rows::{Entry, Shape};
@@ -25,7 +25,7 @@ use whole::NoMemory;
 pub(crate) fn gate_formula(
     alloc: Global,
     shape: &Shape,
-    at: &Reading,
+    at: &ReadPoint,
     gate: &Gate,
 ) -> Result<Formula, NoMemory>
     requires read { CanRead shape.now at.now }
@@ -48,7 +48,7 @@ pub(crate) fn gate_formula(
 fn all_hold(
     alloc: Global,
     shape: &Shape,
-    at: &Reading,
+    at: &ReadPoint,
     parts: &Vec<Gate>,
 ) -> Result<Formula, NoMemory>
     requires read { CanRead shape.now at.now }
@@ -68,7 +68,7 @@ fn all_hold(
 fn any_holds(
     alloc: Global,
     shape: &Shape,
-    at: &Reading,
+    at: &ReadPoint,
     parts: &Vec<Gate>,
 ) -> Result<Formula, NoMemory>
     requires read { CanRead shape.now at.now }
@@ -84,13 +84,13 @@ fn any_holds(
 }
 
 /// That all that was accepted this many rows before the row that the sender hears of was served by then.
-#[tactic(auto, using(whole::proofs::Passing::signed))]
-fn was_served(alloc: Global, shape: &Shape, at: &Reading, rows: u32) -> Result<Formula, NoMemory>
+#[tactic(auto, using(whole::proofs::Overflow::signed))]
+fn was_served(alloc: Global, shape: &Shape, at: &ReadPoint, rows: u32) -> Result<Formula, NoMemory>
     requires read { CanRead shape.now at.now }
     requires rows_in { rows ≤ at.now.heard }
     ensures { IfOk result (λ f. formula_of f ≡ claim_formula shape.now (leaf (delay_claim part at.now rows))) }
 {
-    let Reading { flow, heard, .. } = *at;
+    let ReadPoint { flow, heard, .. } = *at;
     let row = heard - rows;
     let sum = Sum::new(alloc)
         .plus(shape, 1, Entry::A { row, flow })?

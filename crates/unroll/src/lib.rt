@@ -6,8 +6,6 @@
 
 mod flow_rows;
 mod flow_rules;
-#[cfg(test)]
-mod flow_tests;
 mod formulas;
 mod gates;
 mod lin_sums;
@@ -15,19 +13,13 @@ mod name_sums;
 mod openings;
 mod path_rows;
 mod path_sums;
-#[cfg(test)]
-mod problem_tests;
 mod problems;
 mod question_rows;
-#[cfg(test)]
-mod question_tests;
 mod runs;
 mod sends;
 mod server_rules;
 mod steps;
 mod sums;
-#[cfg(test)]
-mod tests;
 
 pub use flow_rows::flow_row;
 pub use path_rows::path_row;

@@ -12,7 +12,7 @@ ghost use Rattle.unroll.specs.Sums.{with_parts};
 
 use crate::sums::Sum;
 use clause_form::Formula;
-use ctrl_meaning::Reading;
+use ctrl_meaning::ReadPoint;
 use ctrl_types::{Lin, Source};
 use run_rows::{Entry, Shape};
 use std::alloc::Global;
@@ -20,7 +20,7 @@ use weighing::{Rel5, Side, with_denominator};
 use whole::NoMemory;
 
 /// The number with its sign turned.
-#[tactic(auto, using(whole::proofs::Passing::signed))]
+#[tactic(auto, using(whole::proofs::Overflow::signed))]
 pub(crate) fn negated(number: i128) -> i128
     requires { unsigned_abs number ≤ 1000000000000 }
     ensures value { result ≡ neg_ℤ number }
@@ -31,11 +31,11 @@ pub(crate) fn negated(number: i128) -> i128
 
 impl Sum {
     /// The sum with a multiple of what a term is taken of.
-    #[tactic(auto, using(whole::proofs::Passing::signed))]
+    #[tactic(auto, using(whole::proofs::Overflow::signed))]
     fn plus_source(
         self,
         shape: &Shape,
-        at: &Reading,
+        at: &ReadPoint,
         factor: i128,
         of: Source,
     ) -> Result<Sum, NoMemory>
@@ -63,13 +63,13 @@ impl Sum {
     }
 
     /// The sum with a multiple of what was served in the step that the sender hears of.
-    #[tactic(auto, using(whole::proofs::Passing::signed))]
-    fn plus_served(self, shape: &Shape, at: &Reading, factor: i128) -> Result<Sum, NoMemory>
+    #[tactic(auto, using(whole::proofs::Overflow::signed))]
+    fn plus_served(self, shape: &Shape, at: &ReadPoint, factor: i128) -> Result<Sum, NoMemory>
         requires read { CanRead shape.now at.now }
         requires factor_to { unsigned_abs factor ≤ 1000000000000 }
         ensures value { IfOk result (λ sum. sum ≡ with_parts shape.now self (source_terms part at.now factor Source.Acked)) }
     {
-        let Reading { flow, heard, .. } = *at;
+        let ReadPoint { flow, heard, .. } = *at;
         let now = self.plus(shape, factor, Entry::S { row: heard, flow })?;
         let before = Entry::S {
             row: heard - 1,
@@ -79,13 +79,13 @@ impl Sum {
     }
 
     /// The sum with a multiple of what was lost in the step that the sender hears of.
-    #[tactic(auto, using(whole::proofs::Passing::signed))]
-    fn plus_lost(self, shape: &Shape, at: &Reading, factor: i128) -> Result<Sum, NoMemory>
+    #[tactic(auto, using(whole::proofs::Overflow::signed))]
+    fn plus_lost(self, shape: &Shape, at: &ReadPoint, factor: i128) -> Result<Sum, NoMemory>
         requires read { CanRead shape.now at.now }
         requires factor_to { unsigned_abs factor ≤ 1000000000000 }
         ensures value { IfOk result (λ sum. sum ≡ with_parts shape.now self (source_terms part at.now factor Source.Lost)) }
     {
-        let Reading { flow, heard, .. } = *at;
+        let ReadPoint { flow, heard, .. } = *at;
         let now = self.plus(shape, factor, Entry::L { row: heard, flow })?;
         let before = Entry::L {
             row: heard - 1,
@@ -98,7 +98,7 @@ impl Sum {
     pub(crate) fn plus_lin(
         self,
         shape: &Shape,
-        at: &Reading,
+        at: &ReadPoint,
         side: Side,
         scale: u32,
         lin: &Lin,
@@ -120,7 +120,7 @@ impl Sum {
 }
 
 /// The least common multiple of the scale and the expression's denominators.
-pub(crate) fn scale_with(start: u32, shape: &Shape, at: &Reading, lin: &Lin) -> u32
+pub(crate) fn scale_with(start: u32, shape: &Shape, at: &ReadPoint, lin: &Lin) -> u32
     requires start_from { 1 ≤ start }
     requires terms_in { AreTerms shape.now at.now lin.now.terms }
     requires least_to { scale_with start lin.now.terms ≤ 1000000 }
@@ -137,7 +137,7 @@ pub(crate) fn scale_with(start: u32, shape: &Shape, at: &Reading, lin: &Lin) -> 
 pub(crate) fn comparison(
     alloc: Global,
     shape: &Shape,
-    at: &Reading,
+    at: &ReadPoint,
     left: &Lin,
     rel: Rel5,
     right: &Lin,

@@ -7,7 +7,7 @@ ghost use Rattle.run_rows.specs.Columns.{HasEntry, HasFlow, rows_of};
 ghost use Rattle.run_rows.specs.declared.shapes.Shape as shapes;
 ghost use Rattle.run_rows.specs.Limits.{IsWithin};
 ghost use Rattle.question_text.specs.Expressions.{HasNum, comparison_claim, lin_terms, scale_of_two, scale_with};
-ghost use Rattle.question_text.specs.Names.{flow_terms, of_terms, row_at};
+ghost use Rattle.question_text.specs.NameMeanings.{flow_terms, of_terms, row_at};
 ghost use Rattle.unroll.specs.ClaimFormulas.{claim_formula};
 ghost use Rattle.unroll.specs.QuestionFormulas.{counted};
 ghost use Rattle.question_text.proofs.Columns.{HasOf};
@@ -32,7 +32,7 @@ pub(crate) enum Count {
 
 impl Sum {
     /// The sum with a multiple of what a term is taken of.
-    #[tactic(auto, using(whole::proofs::Passing::signed))]
+    #[tactic(auto, using(whole::proofs::Overflow::signed))]
     fn plus_of(self, shape: &Shape, at: &Rows, factor: i128, of: Of) -> Result<Sum, NoMemory>
         requires within { IsWithin shape.now }
         requires of_in { HasOf shape.now at.now of }
@@ -68,7 +68,7 @@ impl Sum {
     }
 
     /// The sum with a multiple of what a flow has on a row or, for flow 0, of what each has.
-    #[tactic(auto, using(whole::proofs::Passing::signed))]
+    #[tactic(auto, using(whole::proofs::Overflow::signed))]
     fn plus_count(
         self,
         shape: &Shape,
@@ -90,7 +90,7 @@ impl Sum {
     }
 
     /// The sum with a multiple of what each flow has on a row.
-    #[tactic(auto, using(whole::proofs::Passing::signed))]
+    #[tactic(auto, using(whole::proofs::Overflow::signed))]
     fn plus_each(self, shape: &Shape, row: u32, count: Count, factor: i128) -> Result<Sum, NoMemory>
         requires within { IsWithin shape.now }
         requires row_in { row < rows_of shape.now }

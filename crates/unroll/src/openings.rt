@@ -90,7 +90,7 @@ fn plus_range(
 }
 
 /// That the entry stands so to the bound.
-#[tactic(auto, using(whole::proofs::Passing::signed))]
+#[tactic(auto, using(whole::proofs::Overflow::signed))]
 fn bounded(
     alloc: Global,
     shape: &Shape,

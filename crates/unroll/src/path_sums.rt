@@ -105,7 +105,7 @@ impl Sum {
         Ok(sum)
     }
 
-    #[tactic(auto, using(whole::proofs::Passing::signed))]
+    #[tactic(auto, using(whole::proofs::Overflow::signed))]
     fn plus_new_losses_of(
         self,
         shape: &Shape,

@@ -33,7 +33,7 @@ pub fn run_of(
     run(alloc, &problem.shape, values.as_slice(), over)
 }
 
-#[tactic(auto, using(whole::proofs::Passing::signed), unfolding(claims::specs::Columns::run_of))]
+#[tactic(auto, using(whole::proofs::Overflow::signed), unfolding(claims::specs::Columns::run_of))]
 fn run(alloc: Global, shape: &Shape, values: &[i128], over: i128) -> Result<Run, NoMemory>
     requires within { IsWithin shape.now }
     requires count { length values.now ≡ length (entries_of shape.now) }

@@ -12,7 +12,7 @@ use crate::formulas::{all, both, either, with};
 use crate::lin_sums::{negated, scale_with};
 use crate::sums::Sum;
 use clause_form::Formula;
-use ctrl_meaning::Reading;
+use ctrl_meaning::ReadPoint;
 use ctrl_types::{Controller, Lin};
 use linear_form::Rel;
 use run_rows::{Entry, Shape};
@@ -25,7 +25,7 @@ pub(crate) fn plus_send(
     alloc: Global,
     formulas: Vec<Formula>,
     shape: &Shape,
-    at: &Reading,
+    at: &ReadPoint,
     controller: &Controller,
 ) -> Result<Vec<Formula>, NoMemory>
     requires { CanSend shape.now at.now controller.now }
@@ -39,7 +39,7 @@ pub(crate) fn plus_send(
 }
 
 /// That the arrivals are the greater of what they were and what the window allows: at least both, and at most one of them.
-fn unpaced(alloc: Global, shape: &Shape, at: &Reading, window: &Lin) -> Result<Formula, NoMemory>
+fn unpaced(alloc: Global, shape: &Shape, at: &ReadPoint, window: &Lin) -> Result<Formula, NoMemory>
     requires read { CanRead shape.now at.now }
     requires window_in { CanSum shape.now at.now window.now }
     ensures { IfOk result (λ f. formula_of f ≡ claim_formula shape.now (unpaced_claim (growth_terms part at.now) (window_terms part at.now window.now))) }
@@ -54,7 +54,7 @@ fn unpaced(alloc: Global, shape: &Shape, at: &Reading, window: &Lin) -> Result<F
 fn paced(
     alloc: Global,
     shape: &Shape,
-    at: &Reading,
+    at: &ReadPoint,
     window: &Lin,
     rate: &Lin,
 ) -> Result<Formula, NoMemory>
@@ -88,7 +88,7 @@ fn paced(
 fn within_window(
     alloc: Global,
     shape: &Shape,
-    at: &Reading,
+    at: &ReadPoint,
     window: &Lin,
 ) -> Result<Formula, NoMemory>
     requires read { CanRead shape.now at.now }
@@ -101,12 +101,12 @@ fn within_window(
 }
 
 /// That what the flow sent in this row stands so to 0.
-#[tactic(auto, using(whole::proofs::Passing::signed))]
-fn growth(alloc: Global, shape: &Shape, at: &Reading, rel: Rel) -> Result<Formula, NoMemory>
+#[tactic(auto, using(whole::proofs::Overflow::signed))]
+fn growth(alloc: Global, shape: &Shape, at: &ReadPoint, rel: Rel) -> Result<Formula, NoMemory>
     requires read { CanRead shape.now at.now }
     ensures { IfOk result (λ f. formula_of f ≡ stands shape.now (growth_terms part at.now) rel) }
 {
-    let Reading { row, flow, .. } = *at;
+    let ReadPoint { row, flow, .. } = *at;
     let before = Entry::A { row: row - 1, flow };
     let sum = Sum::new(alloc)
         .plus(shape, 1, Entry::A { row, flow })?
@@ -115,11 +115,11 @@ fn growth(alloc: Global, shape: &Shape, at: &Reading, rel: Rel) -> Result<Formul
 }
 
 /// That what the arrivals have over what was served, what was lost and the window stands so to 0.
-#[tactic(auto, using(whole::proofs::Passing::signed))]
+#[tactic(auto, using(whole::proofs::Overflow::signed))]
 fn over_window(
     alloc: Global,
     shape: &Shape,
-    at: &Reading,
+    at: &ReadPoint,
     window: &Lin,
     rel: Rel,
 ) -> Result<Formula, NoMemory>
@@ -127,7 +127,7 @@ fn over_window(
     requires window_in { CanSum shape.now at.now window.now }
     ensures { IfOk result (λ f. formula_of f ≡ stands shape.now (window_terms part at.now window.now) rel) }
 {
-    let Reading {
+    let ReadPoint {
         row,
         flow,
         heard,
@@ -144,11 +144,11 @@ fn over_window(
 }
 
 /// That what the flow sent in this row has over the rate stands so to 0.
-#[tactic(auto, using(whole::proofs::Passing::signed))]
+#[tactic(auto, using(whole::proofs::Overflow::signed))]
 fn over_rate(
     alloc: Global,
     shape: &Shape,
-    at: &Reading,
+    at: &ReadPoint,
     rate: &Lin,
     rel: Rel,
 ) -> Result<Formula, NoMemory>
@@ -156,7 +156,7 @@ fn over_rate(
     requires rate_in { CanSum shape.now at.now rate.now }
     ensures { IfOk result (λ f. formula_of f ≡ stands shape.now (rate_terms part at.now rate.now) rel) }
 {
-    let Reading { row, flow, .. } = *at;
+    let ReadPoint { row, flow, .. } = *at;
     let scale = scale_with(1, shape, at, rate);
     let unit = i128::from(scale);
     let before = Entry::A { row: row - 1, flow };

@@ -89,7 +89,7 @@ fn served_in_time(alloc: Global, shape: &Shape, path: &Path, row: u32) -> Result
 }
 
 /// `P5`.
-#[tactic(auto, using(whole::proofs::Passing::signed), unfolding(path_server::specs::Claims::waste_claims, path_server::specs::Claims::nothing_waits))]
+#[tactic(auto, using(whole::proofs::Overflow::signed), unfolding(path_server::specs::Claims::waste_claims, path_server::specs::Claims::nothing_waits))]
 pub(crate) fn waste(
     alloc: Global,
     formulas: Vec<Formula>,
@@ -251,7 +251,7 @@ pub(crate) fn waste_rate(
 }
 
 /// What the server can serve in a step, less what it wasted in this one.
-#[tactic(auto, using(whole::proofs::Passing::signed))]
+#[tactic(auto, using(whole::proofs::Overflow::signed))]
 fn left_to_waste(
     alloc: Global,
     shape: &Shape,

@@ -13,7 +13,7 @@ use crate::gates::gate_formula;
 use crate::lin_sums::scale_with;
 use crate::sums::Sum;
 use clause_form::Formula;
-use ctrl_meaning::Reading;
+use ctrl_meaning::ReadPoint;
 use ctrl_types::{Controller, Lin};
 use run_rows::{Entry, Shape};
 use std::alloc::Global;
@@ -25,7 +25,7 @@ pub(crate) fn plus_steps(
     alloc: Global,
     formulas: Vec<Formula>,
     shape: &Shape,
-    at: &Reading,
+    at: &ReadPoint,
     controller: &Controller,
 ) -> Result<Vec<Formula>, NoMemory>
     requires { CanStep shape.now at.now controller.now }
@@ -43,7 +43,7 @@ pub(crate) fn plus_steps(
 fn rule_formula(
     alloc: Global,
     shape: &Shape,
-    at: &Reading,
+    at: &ReadPoint,
     controller: &Controller,
     rule: u32,
 ) -> Result<Formula, NoMemory>
@@ -60,7 +60,7 @@ fn rule_formula(
 fn fires(
     alloc: Global,
     shape: &Shape,
-    at: &Reading,
+    at: &ReadPoint,
     controller: &Controller,
     rule: u32,
 ) -> Result<Formula, NoMemory>
@@ -81,7 +81,7 @@ fn fires(
 fn guard(
     alloc: Global,
     shape: &Shape,
-    at: &Reading,
+    at: &ReadPoint,
     controller: &Controller,
     rule: u32,
 ) -> Result<Formula, NoMemory>
@@ -97,7 +97,7 @@ fn guard(
 fn sets(
     alloc: Global,
     shape: &Shape,
-    at: &Reading,
+    at: &ReadPoint,
     controller: &Controller,
     rule: u32,
 ) -> Result<Formula, NoMemory>
@@ -117,7 +117,7 @@ fn sets(
 fn set_of(
     alloc: Global,
     shape: &Shape,
-    at: &Reading,
+    at: &ReadPoint,
     controller: &Controller,
     rule: u32,
     state: u32,
@@ -135,7 +135,7 @@ fn set_of(
 fn set_formula(
     alloc: Global,
     shape: &Shape,
-    at: &Reading,
+    at: &ReadPoint,
     state: u32,
     set: &Option<Lin>,
 ) -> Result<Formula, NoMemory>
@@ -152,14 +152,14 @@ fn set_formula(
 }
 
 /// That a state has the value of the row before.
-#[tactic(auto, using(whole::proofs::Passing::signed))]
-fn kept(alloc: Global, shape: &Shape, at: &Reading, state: u32) -> Result<Formula, NoMemory>
+#[tactic(auto, using(whole::proofs::Overflow::signed))]
+fn kept(alloc: Global, shape: &Shape, at: &ReadPoint, state: u32) -> Result<Formula, NoMemory>
     requires read { CanRead shape.now at.now }
     requires here { state < state_count shape.now at.now.row }
     requires before { state < state_count shape.now at.now.states }
     ensures { IfOk result (λ f. formula_of f ≡ claim_formula shape.now (set_claim part at.now state None)) }
 {
-    let Reading {
+    let ReadPoint {
         row,
         flow,
         states,
@@ -177,11 +177,11 @@ fn kept(alloc: Global, shape: &Shape, at: &Reading, state: u32) -> Result<Formul
 }
 
 /// That a state has the value of the expression.
-#[tactic(auto, using(whole::proofs::Passing::signed))]
+#[tactic(auto, using(whole::proofs::Overflow::signed))]
 fn has_value(
     alloc: Global,
     shape: &Shape,
-    at: &Reading,
+    at: &ReadPoint,
     state: u32,
     lin: &Lin,
 ) -> Result<Formula, NoMemory>
@@ -190,7 +190,7 @@ fn has_value(
     requires set_in { CanSum shape.now at.now lin.now }
     ensures { IfOk result (λ f. formula_of f ≡ claim_formula shape.now (set_claim part at.now state (Some lin.now))) }
 {
-    let Reading { row, flow, .. } = *at;
+    let ReadPoint { row, flow, .. } = *at;
     let scale = scale_with(1, shape, at, lin);
     let value = Sum::new(alloc).plus(shape, i128::from(scale), Entry::X { row, flow, state })?;
     let excess = value.plus_lin(shape, at, Side::Right, scale, lin)?;

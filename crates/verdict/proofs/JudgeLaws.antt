@@ -99,7 +99,7 @@ module _ (c : Controller) (q : Question) (p : Problem) (is : IsController c) (as
         found = subst (λ (x : Spent). IsFoundRun p q.setting.budget run x) (sym is.0) found;
         violation = found_violates run spent found;
         replayed = is.1;
-        passes = is.2;
+        overflows = is.2;
       })
 
   -- ---- a certificate

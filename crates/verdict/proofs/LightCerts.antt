@@ -1,4 +1,4 @@
--- A certificate whose trees are light can be written, and no sum of a checker passes in it.
+-- A certificate whose trees are light can be written, and no sum of a checker overflows in it.
 use Rattle.std.proofs.Common.{◌≡◌, ◌≢◌, ℕ, zero, suc, ◌+◌, ◌<◌, ◌≤◌, ◌^◌, ℤ, pos, Bool, true, false, not, ◌⊎◌, inl, inr, List, [], ◌∷◌, ◌++◌, length, map, Option, None, Some, slice_get, refl, sym, ap, subst, length-append, arith}
 use Rattle.std.specs.Prelude.{IsSome, is_some, nat_lt, ◌&&◌, if◌then◌else◌}
 use Rattle.std.specs.Int.{is_negative}
@@ -25,7 +25,7 @@ use Rattle.cert_check.proofs.FirstLaws.{Each, Each-append, EachFound-append, Eac
 use Rattle.cert_check.proofs.LemmaLaws.{then_fault}
 use Rattle.cert_text.specs.Spelling.{IsWithin, LemmaFits, LitFits, PartFits, TreeFits, certificate}
 
--- ---- no sum passes
+-- ---- no sum overflows
 
 asked_stays : (k : ℕ) (test : Bool) → StaysWithin (asked k test)
 asked_stays k true = λ column is. cc

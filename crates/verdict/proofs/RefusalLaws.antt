@@ -4,7 +4,7 @@ use Rattle.std.specs.Prelude.{IsOkUnless}
 use Rattle.whole.specs.declared.answers.Refusal.{Refusal}
 use Rattle.ctrl_types.specs.Resolving.{controller_seen}
 use Rattle.ctrl_types.specs.declared.controllers.Controller.{Controller}
-use Rattle.question_text.specs.Resolving.{question_seen}
+use Rattle.question_text.specs.StatementRules.{question_seen}
 use Rattle.question_text.specs.declared.questions.Question.{Question}
 use Rattle.clause_form.specs.Building.{limit_of}
 use Rattle.clause_form.specs.declared.clauses.Clauses.{Clauses}

@@ -20,12 +20,12 @@ use Rattle.ctrl_meaning.specs.Guards.{test_claim}
 use Rattle.ctrl_meaning.specs.Opening.{opening_row}
 use Rattle.ctrl_meaning.specs.Sends.{send_claim}
 use Rattle.ctrl_meaning.specs.Steps.{sending, set_claim, stepping}
-use Rattle.ctrl_meaning.specs.declared.readings.Reading.{Reading}
+use Rattle.ctrl_meaning.specs.declared.readings.ReadPoint.{ReadPoint}
 use Rattle.ctrl_meaning.proofs.SeenLaws.{unruled}
 use Rattle.question_text.specs.Claims.{question_claims, rows_for}
 use Rattle.question_text.specs.Conditions.{condition_of}
 use Rattle.question_text.specs.Expressions.{condition_claim}
-use Rattle.question_text.specs.Resolving.{SeenQuestion, question_seen}
+use Rattle.question_text.specs.StatementRules.{SeenQuestion, question_seen}
 use Rattle.question_text.specs.declared.names.Rows.{Rows}
 use Rattle.question_text.specs.declared.questions.Question.{Question}
 use Rattle.clause_form.specs.Building.{clauses_of}
@@ -51,7 +51,7 @@ rule_count : (c : Controller) → length (controller_seen c).rules ≡ length c.
 rule_count c = length-map c.rules rule_seen
 
 -- one claim for each rule, of rules that are seen
-abbrev claims_by : (ℕ → SeenRule) → ℕ → ℕ → Reading → List Symbolic
+abbrev claims_by : (ℕ → SeenRule) → ℕ → ℕ → ReadPoint → List Symbolic
 claims_by rules states count at =
     map (λ k. disjunction (
     opposite (conjunction (map (λ j. opposite (test_claim part at (rules j).guard)) (below k) ++ test_claim part at (rules k).guard ∷ []))
@@ -59,7 +59,7 @@ claims_by rules states count at =
     )) (below count)
 
 -- the claims of a row, with these of the rules
-abbrev row_by : (Reading → List Symbolic) → Controller → Setting → ℕ → List Symbolic
+abbrev row_by : (ReadPoint → List Symbolic) → Controller → Setting → ℕ → List Symbolic
 row_by steps c s i =
     if nat_lt i (opening_row c s) then []
     else if i == opening_row c s then opening_row_claims part c s i
@@ -81,7 +81,7 @@ module _ (c : Controller) where
 
   flows_seen : (s : Setting) (i : ℕ) → flow_claims part false c s i ≡ flows_by (controller_seen c) s i
   unfolding flow_claims
-  flows_seen s i = ap (λ (steps : Reading → List Symbolic). row_by steps c s i) steps_seen
+  flows_seen s i = ap (λ (steps : ReadPoint → List Symbolic). row_by steps c s i) steps_seen
 
 -- ---- the claims of the question
 

@@ -53,13 +53,13 @@ module _ (c : Controller) (q : Question) where
     pub checked : checks.verdict problem cert ≡ proved
     pub none : NoneViolates c q
 
-  -- the run of a model, at the corner that the journal reaches, has a weighing that passes 128 bits before any other answer
+  -- the run of a model, at the corner that the journal reaches, has a weighing that overflows 128 bits before any other answer
   pub record IsWideReplay (p : Problem) (stuck : Stuck) (spent : Spent) : Type 0 where
     pub run : Run
     pub found : IsFoundRun p q.setting.budget run spent
     pub violation : IsViolation c q run
     pub replayed : replaying c q run ≡ WideRun stuck
-    pub passes : IsFirstWide c q run stuck
+    pub overflows : IsFirstWide c q run stuck
 
   abbrev pub IsWide : Problem → Stuck → Spent → Type 0
   IsWide p stuck spent = IsStuck p.clauses q.setting.budget stuck spent ⊎ IsWideReplay p stuck spent
@@ -86,7 +86,7 @@ module _ (c : Controller) (q : Question) where
   IsReplayed shape run spent (verdict.Budget kept) = ⊥
   IsReplayed shape run spent (verdict.Wide stuck kept) = (kept ≡ spent) × (replaying c q run ≡ WideRun stuck) × IsFirstWide c q run stuck
 
--- why there is no verdict on what two texts mean: the first refusal, or the limit that the problem passes
+-- why there is no verdict on what two texts mean: the first refusal, or the limit that the problem exceeds
 abbrev pub Refuses : List ℕ → List ℕ → JudgeFault → Type 0
 Refuses controller question (fault.Controller r) = IsControllerRefused controller r
 Refuses controller question (fault.Question r) = IsQuestionRefused controller question r

@@ -3,10 +3,10 @@ use Rattle.std.proofs.Common.{◌≡◌, ◌↔◌, inl, inr, ℕ, zero, suc, �
 use Rattle.std.proofs.lemmas.Bool.{cases_lt}
 use Rattle.whole.specs.declared.answers.Stuck.{Stuck}
 use Rattle.condition_tree.specs.Trees.{Says}
-use Rattle.weighing.specs.Asked.{AllAnswered, IsFirstSaid, IsFirstStuck, IsFirstWanted, NonePasses, NoneWanted, Tells, asked}
+use Rattle.weighing.specs.Queries.{AllAnswered, IsFirstSaid, IsFirstStuck, IsFirstWanted, NoneOverflows, NoneWanted, Tells, asked}
 use Rattle.weighing.specs.Claim.{Claim, Holds, outcome}
-use Rattle.weighing.specs.Passing.{Answers, NothingPasses}
-use Rattle.weighing.proofs.Asking.{all_answered, asked_is, asked_stops, first_error, first_wanted, none_wanted}
+use Rattle.weighing.specs.Overflow.{Answers, NothingOverflows}
+use Rattle.weighing.proofs.QueryLaws.{all_answered, asked_is, asked_stops, first_error, first_wanted, none_wanted}
 use Rattle.weighing.proofs.Claims.{never_stuck, outcome_answers}
 
 -- ---- an answer is the wanted one or the other
@@ -51,15 +51,15 @@ says_fact : (b : Bool) (c : Claim) (fact : Type 0) → MeansFact c fact → Says
 says_fact true c fact means says = means.0 says
 says_fact false c fact means says = λ p. says (means.1 p)
 
-answer_says : (row : ℕ) (c : Claim) (fact : Type 0) (b : Bool) → MeansFact c fact → outcome row c ≡ Ok b → NothingPasses c × Says b fact
+answer_says : (row : ℕ) (c : Claim) (fact : Type 0) (b : Bool) → MeansFact c fact → outcome row c ≡ Ok b → NothingOverflows c × Says b fact
 answer_says row c fact true means is = let both = (outcome_answers row c).holds.0 is in (both.0, says_fact true c fact means both.1)
 answer_says row c fact false means is = let both = (outcome_answers row c).fails.0 is in (both.0, says_fact false c fact means both.1)
 
-says_answer : (row : ℕ) (c : Claim) (fact : Type 0) (b : Bool) → MeansFact c fact → NothingPasses c → Says b fact → outcome row c ≡ Ok b
+says_answer : (row : ℕ) (c : Claim) (fact : Type 0) (b : Bool) → MeansFact c fact → NothingOverflows c → Says b fact → outcome row c ≡ Ok b
 says_answer row c fact true means small says = (outcome_answers row c).holds.1 (small, means.1 says)
 says_answer row c fact false means small says = (outcome_answers row c).fails.1 (small, λ holds. says (means.0 holds))
 
-is_answered : (row : ℕ) (c : Claim) → NothingPasses c → (b : Bool) × (outcome row c ≡ Ok b)
+is_answered : (row : ℕ) (c : Claim) → NothingOverflows c → (b : Bool) × (outcome row c ≡ Ok b)
 is_answered row c small = by (outcome row c) refl
   where
     by : (t : Result Bool Stuck) → outcome row c ≡ t → (b : Bool) × (outcome row c ≡ Ok b)
@@ -70,11 +70,11 @@ module _ (wanted : Bool) (row : ℕ) (claim : ℕ → Claim) (n : ℕ) where
   abbrev question : ℕ → Result Bool Stuck
   question k = outcome row (claim k)
 
-  none_passes : (m : ℕ) → AllAnswered question m → NonePasses claim m
-  none_passes m answered = λ k less.
+  none_overflows : (m : ℕ) → AllAnswered question m → NoneOverflows claim m
+  none_overflows m answered = λ k less.
       let one = answered k less in (answer_says row (claim k) (Holds (claim k)) one.0 ((λ h. h), (λ h. h)) one.1).0
 
-  answered : (m : ℕ) → NonePasses claim m → AllAnswered question m
+  answered : (m : ℕ) → NoneOverflows claim m → AllAnswered question m
   answered m small = λ k less. is_answered row (claim k) (small k less)
 
   is_stuck : (stuck : Stuck) → IsFirstStuck row claim n stuck → asked wanted question n ≡ Err stuck
@@ -88,7 +88,7 @@ module _ (wanted : Bool) (row : ℕ) (claim : ℕ → Claim) (n : ℕ) where
   tells_law fact means = record {
     none = (
       λ is. (
-        none_passes n (all_answered wanted question n None is),
+        none_overflows n (all_answered wanted question n None is),
         λ k less. (answer_says row (claim k) (fact k) (not wanted) (means k less) (none_wanted wanted question n is k less)).1,
       ),
       λ both. none_is wanted question n (answered n both.0)
@@ -96,7 +96,7 @@ module _ (wanted : Bool) (row : ℕ) (claim : ℕ → Claim) (n : ℕ) where
     );
     some = λ k. (
       λ is. (
-        none_passes n (all_answered wanted question n (Some k) is),
+        none_overflows n (all_answered wanted question n (Some k) is),
         let one = first_wanted wanted question n k is in
             let inside = one.within in
             record {
@@ -125,7 +125,7 @@ module _ (wanted : Bool) (row : ℕ) (claim : ℕ → Claim) (n : ℕ) where
           record {
             at = one.at;
             within = one.within;
-            before = none_passes one.at one.before;
+            before = none_overflows one.at one.before;
             here = ((outcome_answers row (claim one.at)).stuck stuck).0 one.here;
           },
       λ one. is_stuck stuck one,

@@ -1,20 +1,20 @@
--- What comes of weighing: the first product or sum that passes or, where none does, the exact sum and the claim's truth.
+-- What comes of weighing: the first product or sum that overflows or, where none does, the exact sum and the claim's truth.
 use Rattle.std.proofs.Common.{◌≡◌, ◌↔◌, ℕ, ℤ, pos, ◌+ℤ◌, ◌*ℤ◌, ◌≤ℤ◌, ◌<ℤ◌, Bool, true, false, cond, ◌&&◌, ◌||◌, not, int_le, int_lt, Result, Ok, Err, List, [], ◌∷◌, refl, sym, ◌∙◌, ap, subst, arith}
 use Rattle.std.specs.Prelude.{All}
 use Rattle.std.proofs.lemmas.Int.{ints}
 use Rattle.std.proofs.lemmas.List.Elements.{All-weaker}
-use Rattle.whole.specs.Numbers.{IsWithin, passes}
+use Rattle.whole.specs.Numbers.{IsWithin, overflows}
 use Rattle.whole.specs.declared.answers.Stuck.{Stuck}
 use Rattle.whole.specs.declared.answers.Op.TheVariants.{Product, Sum}
-use Rattle.whole.proofs.Passing.{IsWithin-passes, passes_not}
+use Rattle.whole.proofs.Overflow.{IsWithin-overflows, overflows_not}
 use Rattle.condition_tree.specs.Trees.{always, never, leaf, opposite, end_of_all, all_of, end_of_any, any_of, is_true, Says}
 use Rattle.condition_tree.proofs.Trees.{both_say, either_says, not_says}
 use Rattle.weighing.specs.Claim.{Claim, Compared, Holds, both_outcomes, either_outcome, not_outcome, outcome, total}
 use Rattle.weighing.specs.First.{IsFirst, and_then, first}
-use Rattle.weighing.specs.Passing.{Answers, AllWithin, IsFirstPassing, NothingPasses, Operation, Sums, exact, formed, operation, operations, operations_from}
+use Rattle.weighing.specs.Overflow.{Answers, AllWithin, IsFirstOverflow, NothingOverflows, Operation, Sums, exact, formed, operation, operations, operations_from}
 use Rattle.weighing.specs.Weight.{Weight}
 use Rattle.weighing.specs.Weighed.{Stands, added, more, related, stuck_at, sum_with, test_of, weighed_from}
-use Rattle.weighing.specs.declared.weighings.Term.{Term}
+use Rattle.weighing.specs.declared.weighings.Summand.{Summand}
 use Rattle.weighing.specs.declared.weighings.Rel5.{Rel5}
 use Rattle.weighing.specs.declared.weighings.Rel5.TheVariants.{AtMost, Below, AtLeast, Above, Equal}
 use Rattle.weighing.proofs.Events.{all_passed, each_passed, first-append, first_is, first_is_first}
@@ -22,16 +22,16 @@ use Rattle.weighing.proofs.Events.{all_passed, each_passed, first-append, first_
 -- ---- an operation is formed exactly where its result doesn't pass
 
 within_formed : (row : ℕ) (o : Operation) → formed row o ≡ Ok tt → IsWithin (exact o)
-within_formed row o is = by (passes (exact o)) refl is
+within_formed row o is = by (overflows (exact o)) refl is
   where
-    by : (t : Bool) → passes (exact o) ≡ t → (let r : Result (Unit {0}) Stuck = cond t (Err (stuck_at row o.op o.left o.right)) (Ok tt) in r) ≡ Ok tt
+    by : (t : Bool) → overflows (exact o) ≡ t → (let r : Result (Unit {0}) Stuck = cond t (Err (stuck_at row o.op o.left o.right)) (Ok tt) in r) ≡ Ok tt
         → IsWithin (exact o)
     by true p q = absurd (cc)
-    by false p q = IsWithin-passes (exact o) p
+    by false p q = IsWithin-overflows (exact o) p
 
 formed_within : (row : ℕ) (o : Operation) → IsWithin (exact o) → formed row o ≡ Ok tt
 formed_within row o small =
-    ap (λ t. let r : Result (Unit {0}) Stuck = cond t (Err (stuck_at row o.op o.left o.right)) (Ok tt) in r) (passes_not (exact o) small)
+    ap (λ t. let r : Result (Unit {0}) Stuck = cond t (Err (stuck_at row o.op o.left o.right)) (Ok tt) in r) (overflows_not (exact o) small)
 
 all_within : (row : ℕ) (os : List Operation) → first (formed row) os ≡ Ok tt → AllWithin os
 all_within row os none =
@@ -57,12 +57,12 @@ unless_err (Ok _) x stuck is = absurd (cc)
 
 -- ---- the sum of terms
 
-abbrev summed : ℕ → Result ℤ Stuck → List Term → Result ℤ Stuck
+abbrev summed : ℕ → Result ℤ Stuck → List Summand → Result ℤ Stuck
 summed row (Err stuck) terms = Err stuck
 summed row (Ok sum) terms = unless (first (formed row) (operations_from sum terms)) (sum +ℤ total terms)
 
 -- one more term, whether its product and the sum with it pass
-one_more : (row : ℕ) (product sum z : ℤ) (terms : List Term) (p s : Bool) (one two : Stuck)
+one_more : (row : ℕ) (product sum z : ℤ) (terms : List Summand) (p s : Bool) (one two : Stuck)
     → summed row (cond p (Err one) (cond s (Err two) (Ok z))) terms
     ≡ unless (and_then (cond p (Err one) (Ok tt)) (and_then (cond s (Err two) (Ok tt)) (first (formed row) (operations_from z terms)))) (z +ℤ total terms)
 one_more row product sum z terms true s one two = refl
@@ -75,18 +75,18 @@ added_on s p t = omega (arith, ints)
 plus_none : (s : ℤ) → s ≡ s +ℤ pos 0
 plus_none s = omega (arith, ints)
 
-weighed_is : (row : ℕ) (sum : Result ℤ Stuck) (terms : List Term)
+weighed_is : (row : ℕ) (sum : Result ℤ Stuck) (terms : List Summand)
     → (weighed_from (record { row = row; sum = sum }) terms).sum ≡ summed row sum terms
 weighed_is row (Err stuck) [] = refl
 weighed_is row (Err stuck) (t ∷ terms) = weighed_is row (Err stuck) terms
 weighed_is row (Ok s) [] = ap (λ z. let r : Result ℤ Stuck = Ok z in r) (plus_none s)
 weighed_is row (Ok s) (t ∷ terms) =
     weighed_is row (more row s t.0 t.1) terms
-    ∙ one_more row (t.0 *ℤ t.1) s (s +ℤ t.0 *ℤ t.1) terms (passes (t.0 *ℤ t.1)) (passes (s +ℤ t.0 *ℤ t.1))
+    ∙ one_more row (t.0 *ℤ t.1) s (s +ℤ t.0 *ℤ t.1) terms (overflows (t.0 *ℤ t.1)) (overflows (s +ℤ t.0 *ℤ t.1))
     (stuck_at row Product t.0 t.1) (stuck_at row Sum s (t.0 *ℤ t.1))
     ∙ ap (unless (first (formed row) (operations_from s (t ∷ terms)))) (added_on s (t.0 *ℤ t.1) (total terms))
 
-sums_unless : (row : ℕ) (s : ℤ) (terms : List Term) → Sums row s terms (summed row (Ok s) terms)
+sums_unless : (row : ℕ) (s : ℤ) (terms : List Summand) → Sums row s terms (summed row (Ok s) terms)
 sums_unless row s terms =
     let os : List Operation = operations_from s terms in
     let t : Result (Unit {0}) Stuck = first (formed row) os in
@@ -102,8 +102,8 @@ sums_unless row s terms =
       );
     }
 
--- a weighing of terms is their exact sum, or the first operation that passes
-pub sums_law : (row : ℕ) (sum : Result ℤ Stuck) (terms : List Term) (s : ℤ) → sum ≡ Ok s
+-- a weighing of terms is their exact sum, or the first operation that overflows
+pub sums_law : (row : ℕ) (sum : Result ℤ Stuck) (terms : List Summand) (s : ℤ) → sum ≡ Ok s
     → Sums row s terms (weighed_from (record { row = row; sum = sum }) terms).sum
 sums_law row sum terms s is =
     subst (Sums row s terms)
@@ -111,7 +111,7 @@ sums_law row sum terms s is =
     (sums_unless row s terms)
 
 -- a weighing that is stuck stays so
-pub stuck_stays : (w : Weight) (terms : List Term) (stuck : Stuck) → w.sum ≡ Err stuck → weighed_from w terms ≡ w
+pub stuck_stays : (w : Weight) (terms : List Summand) (stuck : Stuck) → w.sum ≡ Err stuck → weighed_from w terms ≡ w
 stuck_stays w [] stuck is = refl
 stuck_stays w (t ∷ terms) stuck is =
     let same : added w t.0 t.1 ≡ w = ap (λ s. let v : Weight = record { row = w.row; sum = s } in v) (kept w.sum is) in
@@ -147,7 +147,7 @@ test_says Equal z =
     says_same _ _ (z ≡ pos 0) (λ (both : (z ≤ℤ pos 0) × (pos 0 ≤ℤ z)). omega (arith, ints)) (λ (same : z ≡ pos 0). (omega (arith, ints), omega (arith, ints)))
     (both_say (int_le z (pos 0)) (int_le (pos 0) z) (z ≤ℤ pos 0) (pos 0 ≤ℤ z) (le_says z (pos 0)) (le_says (pos 0) z))
 
-abbrev tested : Compared Term → Bool
+abbrev tested : Compared Summand → Bool
 tested d = test_of d.rel (total d.terms)
 
 truth_says : (c : Claim) → Says (is_true tested c) (Holds c)
@@ -219,7 +219,7 @@ answers_unless : (row : ℕ) (c : Claim) → Answers row c (unless (weighs row c
 answers_unless row c =
     let b : Bool = is_true tested c in
     let truth = truth_says c in
-    let whole : NothingPasses c → (d : Bool) → b ≡ d → unless (weighs row c) b ≡ Ok d =
+    let whole : NothingOverflows c → (d : Bool) → b ≡ d → unless (weighs row c) b ≡ Ok d =
     λ small d same. ap (λ r. unless r b) (none_stops row (operations c) small) ∙ ap (λ e. let r : Result Bool Stuck = Ok e in r) same in
     record {
       holds = (
@@ -236,7 +236,7 @@ answers_unless row c =
       );
     }
 
--- what comes of weighing a claim says whether it holds, or what passes first
+-- what comes of weighing a claim says whether it holds, or what overflows first
 pub outcome_answers : (row : ℕ) (c : Claim) → Answers row c (outcome row c)
 outcome_answers row c = subst (Answers row c) (sym (outcome_is row c)) (answers_unless row c)
 
@@ -246,8 +246,8 @@ answer_is_outcome row c (Ok true) says = sym ((outcome_answers row c).holds.1 (s
 answer_is_outcome row c (Ok false) says = sym ((outcome_answers row c).fails.1 (says.fails.0 refl))
 answer_is_outcome row c (Err stuck) says = sym (((outcome_answers row c).stuck stuck).1 ((says.stuck stuck).0 refl))
 
--- where nothing passes, a weighing isn't stuck
-pub never_stuck : (row : ℕ) (c : Claim) (stuck : Stuck) → NothingPasses c → outcome row c ≡ Err stuck → ⊥
+-- where nothing overflows, a weighing isn't stuck
+pub never_stuck : (row : ℕ) (c : Claim) (stuck : Stuck) → NothingOverflows c → outcome row c ≡ Err stuck → ⊥
 never_stuck row c stuck small is =
     let stops : weighs row c ≡ Err stuck = unless_err (weighs row c) (is_true tested c) stuck (sym (outcome_is row c) ∙ is) in
     let none : weighs row c ≡ Ok tt = none_stops row (operations c) small in

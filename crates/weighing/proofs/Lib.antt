@@ -1,5 +1,5 @@
 pub mod Events
 pub mod Claims
-pub mod Asking
+pub mod QueryLaws
 pub mod AskedClaims
 pub mod Scaling

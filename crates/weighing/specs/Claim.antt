@@ -3,7 +3,7 @@ use Rattle.std.specs.Prelude.{ℕ, ℤ, pos, ◌+ℤ◌, ◌*ℤ◌, Bool, true,
 use Rattle.whole.specs.declared.answers.Stuck.{Stuck}
 use Rattle.condition_tree.specs.Trees.{Tree, leaf, all_of, end_of_all, Algebra, Truth, folded}
 use Rattle.weighing.specs.Weighed.{related, weighed, Stands}
-use Rattle.weighing.specs.declared.weighings.Term.{Term}
+use Rattle.weighing.specs.declared.weighings.Summand.{Summand}
 use Rattle.weighing.specs.declared.weighings.Rel5.{Rel5}
 
 -- a comparison: terms of some kind, and the relation to zero in which their sum has to stand
@@ -28,14 +28,14 @@ all_claims (c ∷ cs) = joined c cs
 
 -- a claim on terms whose values are known
 abbrev pub Claim : Type 0
-Claim = Claims Term
+Claim = Claims Summand
 
 -- the exact sum of a comparison's terms
-abbrev pub total : List Term → ℤ
+abbrev pub total : List Summand → ℤ
 total [] = pos 0
 total (t ∷ terms) = (t.0 *ℤ t.1) +ℤ total terms
 
-abbrev pub ComparedHolds : Compared Term → Type 0
+abbrev pub ComparedHolds : Compared Summand → Type 0
 ComparedHolds c = Stands c.rel (total c.terms)
 
 -- what a claim means
@@ -69,4 +69,4 @@ outcomes = record {
 
 -- what comes of weighing a claim on a row: all its comparisons are weighed, in order, before its truth is taken
 abbrev pub outcome : ℕ → Claim → Result Bool Stuck
-outcome row c = folded outcomes (λ (d : Compared Term). related d.rel (weighed row d.terms).sum) c
+outcome row c = folded outcomes (λ (d : Compared Summand). related d.rel (weighed row d.terms).sum) c

@@ -2,6 +2,6 @@ pub mod First
 pub mod Weight
 pub mod Weighed
 pub mod Claim
-pub mod Passing
+pub mod Overflow
 pub mod Scaled
-pub mod Asked
+pub mod Queries

@@ -1,13 +1,13 @@
--- The weighing of a comparison: its terms are added one after another, and the first product or sum that passes ends it.
+-- The weighing of a comparison: its terms are added one after another, and the first product or sum that overflows ends it.
 use Rattle.std.specs.Prelude.{ℕ, ℤ, pos, [], ◌∷◌, ◌+ℤ◌, ◌*ℤ◌, ◌≤ℤ◌, ◌<ℤ◌, ◌≡◌, Bool, Result, Ok, Err, List, fold, if◌then◌else◌, int_lt, int_le, ◌&&◌}
-use Rattle.whole.specs.Numbers.{IsWithin, passes}
+use Rattle.whole.specs.Numbers.{IsWithin, overflows}
 use Rattle.whole.specs.declared.answers.Stuck.{Stuck}
 use Rattle.whole.specs.declared.answers.Pair.{Pair}
 use Rattle.whole.specs.declared.answers.Op.{Op}
 use Rattle.whole.specs.declared.answers.Op.TheVariants.{Product, Sum}
 use Rattle.whole.specs.declared.answers.Place.TheVariants.{Replay}
 use Rattle.weighing.specs.Weight.{Weight}
-use Rattle.weighing.specs.declared.weighings.Term.{Term}
+use Rattle.weighing.specs.declared.weighings.Summand.{Summand}
 use Rattle.weighing.specs.declared.weighings.Rel5.{Rel5}
 use Rattle.weighing.specs.declared.weighings.Rel5.TheVariants.{AtMost, Below, AtLeast, Above, Equal}
 
@@ -22,8 +22,8 @@ stuck_at row op left right = record { place = Replay; at = row; by = 0; op = op;
 -- the sum with the term k * y: the product is formed first, then the sum
 abbrev pub more : ℕ → ℤ → ℤ → ℤ → Result ℤ Stuck
 more row sum k y =
-    if passes (k *ℤ y) then Err (stuck_at row Product k y)
-    else if passes (sum +ℤ k *ℤ y) then Err (stuck_at row Sum sum (k *ℤ y))
+    if overflows (k *ℤ y) then Err (stuck_at row Product k y)
+    else if overflows (sum +ℤ k *ℤ y) then Err (stuck_at row Sum sum (k *ℤ y))
     else Ok (sum +ℤ k *ℤ y)
 
 -- what is stuck stays as it is
@@ -37,18 +37,18 @@ start row = record { row = row; sum = Ok (pos 0) }
 abbrev pub added : Weight → ℤ → ℤ → Weight
 added w k y = record { row = w.row; sum = sum_with w.row w.sum k y }
 
-abbrev pub EachWithin : List Term → Type 0
+abbrev pub EachWithin : List Summand → Type 0
 EachWithin [] = Unit {0}
 EachWithin (t ∷ terms) = IsWithin t.0 × IsWithin t.1 × EachWithin terms
 
-abbrev pub times : ℤ → ℤ → Term
+abbrev pub times : ℤ → ℤ → Summand
 times k y = record { 0 = k; 1 = y }
 
 -- the terms in their written order, each with its product
-abbrev pub weighed_from : Weight → List Term → Weight
+abbrev pub weighed_from : Weight → List Summand → Weight
 weighed_from w terms = fold (λ w t. added w t.0 t.1) w terms
 
-abbrev pub weighed : ℕ → List Term → Weight
+abbrev pub weighed : ℕ → List Summand → Weight
 weighed row terms = weighed_from (start row) terms
 
 -- whether a sum stands so to zero, as a test

@@ -1,4 +1,4 @@
--- What a weighing has come to on a row: its sum, or the operation that passed.
+-- What a weighing has come to on a row: its sum, or the operation that overflowed.
 use Rattle.std.specs.Prelude.{ℕ, ℤ, Result}
 use Rattle.whole.specs.declared.answers.Stuck.{Stuck}
 

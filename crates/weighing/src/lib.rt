@@ -1,4 +1,4 @@
-//! How a comparison of entries is weighed: term by term, in exact whole numbers, or stuck at the first that passes.
+//! How a comparison of entries is weighed: term by term, in exact whole numbers, or stuck at the first that overflows.
 //!
 //! A comparison is a list of terms and a relation of their sum to zero. Its coefficients are whole: they are multiplied
 //! with the least common multiple of their denominators, the scale. Several comparisons make a claim;
@@ -11,4 +11,4 @@ mod weighings;
 
 pub use outcome::{both, compare, either, not};
 pub use scales::{Num, Side, with_denominator};
-pub use weighings::{Rel5, Term, Weighing};
+pub use weighings::{Rel5, Summand, Weighing};

@@ -1,15 +1,15 @@
 ghost use Rattle.std.specs.Prelude.{◌≡◌, ℕ};
 ghost use Rattle.condition_tree.specs.Trees.{all_of, any_of, opposite};
 ghost use Rattle.weighing.specs.Claim.{Claim, both_outcomes, compare, either_outcome, not_outcome, outcome};
-ghost use Rattle.weighing.specs.Passing.{Answers};
+ghost use Rattle.weighing.specs.Overflow.{Answers};
 ghost use Rattle.weighing.specs.Weighed.{EachWithin};
 
-use crate::weighings::{Rel5, Term, Weighing};
+use crate::weighings::{Rel5, Summand, Weighing};
 use whole::Stuck;
 
 /// Whether the sum of the terms stands so to zero, or the operation at which its weighing is stuck: the first product or
-/// sum, over unbounded numbers, that passes `2^127 - 1` in size.
-pub fn compare(row: u32, terms: &[Term], rel: Rel5) -> Result<bool, Stuck>
+/// sum, over unbounded numbers, that exceeds `2^127 - 1` in size.
+pub fn compare(row: u32, terms: &[Summand], rel: Rel5) -> Result<bool, Stuck>
     requires { EachWithin terms.now }
     ensures exact { result ≡ outcome row (compare terms.now rel) }
     ensures means { Answers row (compare terms.now rel) result }

@@ -20,7 +20,7 @@ pub enum Side {
 }
 
 /// The least multiple of `scale` which the number's denominator divides.
-#[tactic(auto, using(whole::proofs::Passing::signed))]
+#[tactic(auto, using(whole::proofs::Overflow::signed))]
 pub fn with_denominator(scale: u32, number: Num) -> u32
     requires scale_from { 1 ≤ scale }
     requires number_in { IsNum number }
@@ -33,7 +33,7 @@ pub fn with_denominator(scale: u32, number: Num) -> u32
 
 impl Num {
     /// The number times the scale, which its denominator divides, with the sign that its side gives it.
-    #[tactic(auto, using(whole::proofs::Passing::signed))]
+    #[tactic(auto, using(whole::proofs::Overflow::signed))]
     pub fn scaled(self, scale: u32, side: Side) -> i128
         requires number_in { IsNum self }
         requires scale_to { scale ≤ 1000000 }

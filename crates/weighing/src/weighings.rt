@@ -2,7 +2,7 @@ ghost use Rattle.std.specs.Prelude.{◌≡◌, ℤ, Bool, Ok, Err};
 ghost use Rattle.whole.specs.Numbers.{IsWithin, fma};
 ghost use Rattle.whole.specs.declared.answers.Stuck.{Stuck};
 ghost use Rattle.condition_tree.specs.Trees.{Says};
-ghost use Rattle.weighing.specs.Passing.{Sums};
+ghost use Rattle.weighing.specs.Overflow.{Sums};
 ghost use Rattle.weighing.specs.Weighed.{EachWithin, Stands, added, more, related, start, stuck_at, weighed_from};
 
 use std::marker::Model;
@@ -20,9 +20,9 @@ pub enum Rel5 {
 
 /// A term of a comparison: a coefficient and the entry that it is taken of.
 #[derive(Clone, Copy, Debug, PartialEq, Eq)]
-pub struct Term(pub i128, pub i128);
+pub struct Summand(pub i128, pub i128);
 
-/// A comparison's running sum, or the operation at which it passed `2^127 - 1`.
+/// A comparison's running sum, or the operation at which it overflowed `2^127 - 1`.
 #[derive(Clone, Copy, Debug)]
 pub struct Weighing {
     row: u32,
@@ -68,7 +68,7 @@ impl Weighing {
     }
 
     /// The sum with these terms, in their order. A weighing that is stuck stays as it is.
-    pub fn plus_all(self, terms: &[Term]) -> Weighing
+    pub fn plus_all(self, terms: &[Summand]) -> Weighing
         requires { EachWithin terms.now }
         ensures exact { result ≡ weighed_from self terms.now }
         ensures means { (sum : ℤ) → self.sum ≡ Ok sum → Sums self.row sum terms.now result.sum }
@@ -99,7 +99,7 @@ impl Weighing {
     }
 }
 
-/// The operation at which `sum + coefficient * entry` passes: the product, or the sum of the two.
+/// The operation at which `sum + coefficient * entry` overflows: the product, or the sum of the two.
 fn stuck(row: u32, sum: i128, coefficient: i128, entry: i128) -> Stuck
     requires sum_in { IsWithin sum }
     requires coefficient_in { IsWithin coefficient }

@@ -1,3 +1,3 @@
 pub mod Divisors
 pub mod Integers
-pub mod Passing
+pub mod Overflow

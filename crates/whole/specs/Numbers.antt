@@ -7,16 +7,16 @@ abbrev pub IsWithin : ℤ → Type 0
 IsWithin z = unsigned_abs z < 2 ^ 127
 
 -- the size of z exceeds 2^127 - 1
-abbrev pub passes : ℤ → Bool
-passes z = nat_le (2 ^ 127) (unsigned_abs z)
+abbrev pub overflows : ℤ → Bool
+overflows z = nat_le (2 ^ 127) (unsigned_abs z)
 
 -- z where it doesn't pass
 abbrev pub whole : ℤ → Option ℤ
-whole z = if passes z then None else Some z
+whole z = if overflows z then None else Some z
 
--- acc + k * y where neither the product nor the sum passes
+-- acc + k * y where neither the product nor the sum overflows
 abbrev pub fma : ℤ → ℤ → ℤ → Option ℤ
-fma acc k y = if passes (k *ℤ y) then None else whole (acc +ℤ k *ℤ y)
+fma acc k y = if overflows (k *ℤ y) then None else whole (acc +ℤ k *ℤ y)
 
 -- Euclid's remainders from a and b on, for as many steps as the first number says
 abbrev pub gcd_steps : ℕ → ℕ → ℕ → ℕ

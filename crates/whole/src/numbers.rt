@@ -6,7 +6,7 @@ ghost use Rattle.whole.specs.Numbers.{IsWithin, whole, fma, IsLcm, gcd_of, lcm_o
 /// The greatest common divisor of the sizes of `a` and `b`, at least 0; that of 0 and 0 is 0.
 ///
 /// By Euclid's algorithm (Elements, book VII, proposition 2).
-#[tactic(auto, using(crate::proofs::Passing::signed, crate::proofs::Divisors::divisors))]
+#[tactic(auto, using(crate::proofs::Overflow::signed, crate::proofs::Divisors::divisors))]
 pub fn gcd(a: i128, b: i128) -> i128
     requires first { IsWithin a }
     requires second { IsWithin b }
@@ -20,7 +20,7 @@ pub fn gcd(a: i128, b: i128) -> i128
 /// The least common multiple of `a` and `b`, both at least 1.
 ///
 /// None exactly where it exceeds `2^127 - 1`, whatever the size of `a * b`.
-#[tactic(auto, using(crate::proofs::Passing::signed, crate::proofs::Divisors::divisors))]
+#[tactic(auto, using(crate::proofs::Overflow::signed, crate::proofs::Divisors::divisors))]
 pub fn lcm(a: i128, b: i128) -> Option<i128>
     requires first { pos 1 ≤ℤ a }
     requires second { pos 1 ≤ℤ b }
@@ -39,7 +39,7 @@ pub fn lcm(a: i128, b: i128) -> Option<i128>
 /// `acc + k * y`.
 ///
 /// None exactly where the size of the product or of the sum exceeds `2^127 - 1`.
-#[tactic(auto, using(crate::proofs::Passing::fma_of_sum, crate::proofs::Passing::signed))]
+#[tactic(auto, using(crate::proofs::Overflow::fma_of_sum, crate::proofs::Overflow::signed))]
 pub fn checked_fma(acc: i128, k: i128, y: i128) -> Option<i128>
     requires start { IsWithin acc }
     requires factor { IsWithin k }
@@ -72,21 +72,21 @@ fn signed(size: u128) -> Option<i128>
     }
 }
 
-#[tactic(auto, using(crate::proofs::Passing::whole_unfit, crate::proofs::Passing::signed))]
+#[tactic(auto, using(crate::proofs::Overflow::whole_unfit, crate::proofs::Overflow::signed))]
 fn product(k: i128, y: i128) -> Option<i128>
     ensures { result ≡ whole (k *ℤ y) }
 {
     kept(k.checked_mul(y)?)
 }
 
-#[tactic(auto, using(crate::proofs::Passing::whole_unfit, crate::proofs::Passing::signed))]
+#[tactic(auto, using(crate::proofs::Overflow::whole_unfit, crate::proofs::Overflow::signed))]
 fn sum(a: i128, b: i128) -> Option<i128>
     ensures { result ≡ whole (a +ℤ b) }
 {
     kept(a.checked_add(b)?)
 }
 
-// The number itself, but for `i128::MIN`, whose size passes.
+// The number itself, but for `i128::MIN`, whose size overflows.
 fn kept(z: i128) -> Option<i128>
     ensures { result ≡ whole z }
 {
@@ -108,7 +108,7 @@ mod tests {
     }
 
     #[test]
-    fn lcm_is_refused_only_where_it_passes(rt: HostRuntime) {
+    fn lcm_is_refused_only_where_it_overflows(rt: HostRuntime) {
         assert_eq!(rt; lcm(4, 6), Some(12));
         assert_eq!(rt; lcm(LARGEST, LARGEST), Some(LARGEST));
         assert_eq!(rt; lcm(LARGEST, 2), None);

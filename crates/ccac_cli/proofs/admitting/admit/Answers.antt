@@ -4,9 +4,9 @@ use Rattle.path_server.specs.declared.settings.Setting.{Setting}
 use Rattle.question_syntax.specs.Grammar.{IsText}
 use Rattle.question_syntax.specs.Sections.{Sections}
 use Rattle.ccac_cli.specs.Admitting.{AdmitAnswers, TraceAnswers, question_read, question_refused}
-use Rattle.ccac_cli.specs.Reports.{Answer}
-use Rattle.ccac_cli.specs.declared.reports.Source.TheVariants.{Question}
-use Rattle.ccac_cli.proofs.HaltLaws.{refusal_halts, replies_so}
+use Rattle.file_reports.specs.Reports.{Answer}
+use Rattle.file_reports.specs.declared.sources.Source.TheVariants.{Question}
+use Rattle.file_reports.proofs.HaltLaws.{refusal_halts, replies_so}
 use Rattle.ccac_cli.proofs.admitting.admit.Goals as goal
 
 on_setting : (bytes trace : List ℕ) (s : Setting) (answer : Answer) → (sections : Sections) × (IsText bytes sections × (sections.setting ≡ s))

@@ -1,6 +1,6 @@
-use Rattle.ccac_cli.specs.Asked.{asked}
+use Rattle.ccac_cli.specs.AskAnswers.{asked}
 use Rattle.ccac_cli.specs.Audits.{AuditAnswers, ProblemAnswers}
-use Rattle.ccac_cli.proofs.HaltLaws.{replies_so}
+use Rattle.file_reports.proofs.HaltLaws.{replies_so}
 use Rattle.ccac_cli.proofs.auditing.audit.Goals as goal
 
 pub returns : goal.returns

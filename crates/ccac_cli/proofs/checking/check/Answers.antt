@@ -18,7 +18,7 @@ returns-in-Err-Question c =
     question_answers c.args.controller.now c.args.question.now c.in-Err-Question.field-0 c.in-Err-Question.refusal c.halted-in-Err-Question.result
     c.in-Err-Question.field-0-is c.in-Err-Question.ensures.judges c.halted-in-Err-Question.ensures
 
-pub returns-in_ok-too_large-in-Err-Large : goal.returns-in_ok-too_large-in-Err-Large
-returns-in_ok-too_large-in-Err-Large c =
+pub returns-in_ok-size_report-in-Err-Large : goal.returns-in_ok-size_report-in-Err-Large
+returns-in_ok-size_report-in-Err-Large c =
     size_answers c.args.controller.now c.args.question.now c.in-Err-Large.field-0 c.in-Err-Large.what c.in-Err-Large.limit _
-    c.in-Err-Large.field-0-is c.in-Err-Large.ensures.judges c.in_ok-too_large-in-Err-Large.ensures
+    c.in-Err-Large.field-0-is c.in-Err-Large.ensures.judges c.in_ok-size_report-in-Err-Large.ensures

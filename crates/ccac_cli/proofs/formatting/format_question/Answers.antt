@@ -2,9 +2,9 @@ use Rattle.std.proofs.Common.{◌≡◌, ap, ◌∙◌, ℕ, List}
 use Rattle.ctrl_types.specs.declared.controllers.Controller.{Controller}
 use Rattle.question_text.specs.declared.questions.Question.{Question}
 use Rattle.asked.specs.Asked.{AreAsked}
-use Rattle.ccac_cli.specs.Asked.{asked}
+use Rattle.ccac_cli.specs.AskAnswers.{asked}
 use Rattle.ccac_cli.specs.Formats.{QuestionFormat, formatted, question_text}
-use Rattle.ccac_cli.specs.Reports.{Answer}
+use Rattle.file_reports.specs.Reports.{Answer}
 use Rattle.ccac_cli.proofs.formatting.format_question.Goals as goal
 
 shows_text : (controller question text : List ℕ) (c : Controller) (q : Question) (answer : Answer) → AreAsked controller question c q
@@ -13,5 +13,5 @@ shows_text controller question text c q answer are shows same = asked c q are (s
 
 pub returns : goal.returns
 returns c =
-    shows_text c.args.controller.now c.args.question.now _ c.in-Ok.asked.controller c.in-Ok.asked.question _ c.in-Ok.ensures.found c.file.ensures
+    shows_text c.args.controller.now c.args.question.now _ c.in-Ok.asked.controller c.in-Ok.asked.question _ c.in-Ok.ensures.found c.file_report.ensures
     c.in_ok-print.ensures.exact

@@ -1,10 +1,12 @@
 use Rattle.std.proofs.Common.{◌≡◌, subst, ℕ, List, map, inr, refl, arith}
 use Rattle.ccac_ports.specs.Ports.{Told}
 use Rattle.ccac_cli.specs.Commands.{order_of}
-use Rattle.ccac_cli.specs.Ended.{Answers, no_memory}
-use Rattle.ccac_cli.specs.Reports.{Answer}
+use Rattle.file_reports.specs.Ended.{no_memory}
+use Rattle.ccac_cli.specs.Ended.{Answers}
+use Rattle.file_reports.specs.Reports.{Answer}
 use Rattle.ccac_cli.proofs.CheckEnds.{check_decided}
-use Rattle.ccac_cli.proofs.EndLaws.{ends_by_usage, ends_delivered, nothing_put, told_answered, usage_ends}
+use Rattle.file_reports.proofs.EndLaws.{ends_delivered, nothing_put}
+use Rattle.ccac_cli.proofs.EndLaws.{ends_by_usage, told_answered, usage_ends}
 use Rattle.ccac_cli.proofs.HeadlineLaws.{headline_ends}
 use Rattle.ccac_cli.proofs.MeaningLaws.{status_meant}
 use Rattle.ccac_cli.proofs.running.run.Goals as goal

@@ -1,4 +1,4 @@
-use Rattle.cert_check.proofs.AnswerLaws.{equal_answer, says_proved, says_failed, says_passed, proved_no_model}
+use Rattle.cert_check.proofs.AnswerLaws.{equal_answer, says_proved, says_failed, says_overflowed, proved_no_model}
 use Rattle.cert_check.proofs.checking.check.Goals as goal
 
 pub returns-in-Ok-clause-proved : goal.returns-in-Ok-clause-proved
@@ -7,8 +7,8 @@ returns-in-Ok-clause-proved c = says_proved _ _ _ (equal_answer _ _ c.in-Ok.ensu
 pub returns-in-Ok-clause-failed : goal.returns-in-Ok-clause-failed
 returns-in-Ok-clause-failed c = says_failed _ _ _ (equal_answer _ _ c.in-Ok.ensures)
 
-pub returns-in-Ok-clause-passed : goal.returns-in-Ok-clause-passed
-returns-in-Ok-clause-passed c = says_passed _ _ _ (equal_answer _ _ c.in-Ok.ensures)
+pub returns-in-Ok-clause-overflowed : goal.returns-in-Ok-clause-overflowed
+returns-in-Ok-clause-overflowed c = says_overflowed _ _ _ (equal_answer _ _ c.in-Ok.ensures)
 
 pub returns-in-Ok-clause-no_model : goal.returns-in-Ok-clause-no_model
 returns-in-Ok-clause-no_model c =

@@ -1,4 +1,4 @@
-use Rattle.ccac_cli.specs.Ended.{no_memory}
+use Rattle.file_reports.specs.Ended.{no_memory}
 use Rattle.gen_report.specs.Shown.{seed_seen, shown}
 use Rattle.report_put.proofs.PutLaws.{nothing_put}
 use Rattle.command_line.specs.Generated.{Generates, answer_of}

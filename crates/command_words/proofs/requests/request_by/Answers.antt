@@ -1,7 +1,7 @@
 use Rattle.std.proofs.Common.{◌∙◌, ap, option_map}
 use Rattle.std.proofs.lemmas.Result.{IfOk-weaker}
 use Rattle.command_words.specs.Forms.{entry_of}
-use Rattle.command_words.specs.Seen.{seen}
+use Rattle.command_words.specs.Views.{seen}
 use Rattle.command_words.proofs.RequestLaws.{not_taken, taken}
 use Rattle.command_words.proofs.requests.request_by.Goals as goal
 

@@ -1,7 +1,7 @@
 use Rattle.std.proofs.Common.{◌≡◌, ◌++◌, drop, map}
 use Rattle.std.specs.Prelude.{codes}
 use Rattle.condition_syntax.specs.Trees.{condition_of, conjunction, disjunction}
-use Rattle.condition_syntax.specs.Printing.{condition_text}
+use Rattle.condition_syntax.specs.CanonicalText.{condition_text}
 use Rattle.condition_syntax.proofs.TextLaws.{and_part, or_part, listed}
 use Rattle.condition_syntax.proofs.printing.+texts.Given as goal
 

@@ -1,7 +1,7 @@
 use Rattle.std.proofs.Common.{map, ap, sym, ◌∙◌}
 use Rattle.condition_syntax.specs.declared.conditions.Cond.{Cond}
 use Rattle.condition_syntax.specs.Trees.{condition_of}
-use Rattle.condition_syntax.specs.Printing.{is_conjunction}
+use Rattle.condition_syntax.specs.CanonicalText.{is_conjunction}
 use Rattle.condition_syntax.proofs.TreeLaws.{condition_of-And, condition_of-Or}
 use Rattle.condition_syntax.proofs.TextLaws.{is_conjunction-conjunction, is_conjunction-disjunction}
 use Rattle.condition_syntax.proofs.printing.is_conjunction.Goals as goal

@@ -1,6 +1,6 @@
 use Rattle.std.proofs.Common.{◌≡◌, ◌++◌, drop}
 use Rattle.std.specs.Prelude.{flat_map}
-use Rattle.condition_syntax.specs.Printing.{later_text}
+use Rattle.condition_syntax.specs.CanonicalText.{later_text}
 use Rattle.condition_syntax.proofs.sum_texts.put_others.Given as goal
 
 abbrev pub invariant-loop-term : goal.invariant-loop-term

@@ -52,5 +52,5 @@ returns-in-None-clause-stuck c =
     let left : c.divided.result ≡ pos (unsigned_abs c.args.scale / gcd_of (unsigned_abs c.args.scale) (unsigned_abs c.args.den)) = quotient ∙ ap (λ z. int_div c.args.scale z) is ∙ over_is c.args.scale _ c.requires.scale in
     record {
       operation = subst (λ x. IsWholeProduct c.args.column x (pos (unsigned_abs c.args.den)) c.product_of.result) left (subst (λ y. IsWholeProduct c.args.column c.divided.result y c.product_of.result) (size_is c.args.den c.requires.den) named);
-      passes = multiple_wide c.args.scale c.args.den (simp to_z-of_z at c.in-None.ensures.exact);
+      overflows = multiple_wide c.args.scale c.args.den (simp to_z-of_z at c.in-None.ensures.exact);
     }

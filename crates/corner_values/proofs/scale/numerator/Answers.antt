@@ -18,5 +18,5 @@ returns-in-None-clause-stuck g c =
     let times : c.divided-times.result ≡ pos (unsigned_abs c.args.scale / p.den) = quotient ∙ ap (λ z. int_div c.args.scale z) c.parts-num.ensures.den ∙ over_is c.args.scale p.den c.requires in
     record {
       operation = subst (λ x. IsWholeProduct c.args.column x (pos (unsigned_abs c.args.scale / p.den)) c.product_of.result) c.parts-num.ensures.num (subst (λ y. IsWholeProduct c.args.column c.parts-num.result.0 y c.product_of.result) times named);
-      passes = subst (λ x. 2 ^ 127 ≤ unsigned_abs (x *ℤ pos (unsigned_abs c.args.scale / p.den))) c.parts-num.ensures.num (subst (λ y. 2 ^ 127 ≤ unsigned_abs (c.parts-num.result.0 *ℤ y)) times (product_wide c.parts-num.result.0 c.divided-times.result exact));
+      overflows = subst (λ x. 2 ^ 127 ≤ unsigned_abs (x *ℤ pos (unsigned_abs c.args.scale / p.den))) c.parts-num.ensures.num (subst (λ y. 2 ^ 127 ≤ unsigned_abs (c.parts-num.result.0 *ℤ y)) times (product_wide c.parts-num.result.0 c.divided-times.result exact));
     }

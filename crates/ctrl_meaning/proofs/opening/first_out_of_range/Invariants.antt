@@ -1,5 +1,5 @@
 use Rattle.std.proofs.Common.{◌≡◌, false, Ok}
-use Rattle.weighing.specs.Asked.{asked}
+use Rattle.weighing.specs.Queries.{asked}
 use Rattle.ctrl_meaning.specs.Opening.{state_in_range}
 use Rattle.ctrl_meaning.proofs.opening.first_out_of_range.Given as goal
 

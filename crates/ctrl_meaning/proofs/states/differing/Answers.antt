@@ -1,7 +1,7 @@
 use Rattle.std.proofs.Common.{◌∙◌, ap, sym, false, Ok, Result, Option, ℕ, ◌<◌, length, arith}
 use Rattle.std.proofs.lemmas.Result.{err_from_is_err_and}
 use Rattle.whole.specs.declared.answers.Stuck.{Stuck}
-use Rattle.weighing.proofs.Asking.{asked_more, asked_none, asked_stops}
+use Rattle.weighing.proofs.QueryLaws.{asked_more, asked_none, asked_stops}
 use Rattle.ctrl_meaning.specs.Steps.{differing, set_outcome}
 use Rattle.ctrl_meaning.proofs.Questions.{set_asked, sets_are}
 use Rattle.ctrl_meaning.proofs.states.differing.Goals as goal

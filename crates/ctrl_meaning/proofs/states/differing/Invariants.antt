@@ -1,5 +1,5 @@
 use Rattle.std.proofs.Common.{◌≡◌, false, Ok}
-use Rattle.weighing.specs.Asked.{asked}
+use Rattle.weighing.specs.Queries.{asked}
 use Rattle.ctrl_meaning.specs.Steps.{set_outcome}
 use Rattle.ctrl_meaning.proofs.states.differing.Given as goal
 

@@ -1,7 +1,7 @@
 use Rattle.std.proofs.Common.{◌∙◌, ap, sym, true, Ok, Result, Option, ℕ, ◌-◌, length, arith}
 use Rattle.std.proofs.lemmas.Result.{err_from_is_err_and}
 use Rattle.whole.specs.declared.answers.Stuck.{Stuck}
-use Rattle.weighing.proofs.Asking.{asked_more, asked_none, asked_stops}
+use Rattle.weighing.proofs.QueryLaws.{asked_more, asked_none, asked_stops}
 use Rattle.ctrl_meaning.specs.Steps.{fired, firing, guard_outcome}
 use Rattle.ctrl_meaning.proofs.Questions.{guard_asked}
 use Rattle.ctrl_meaning.proofs.states.fired.Goals as goal

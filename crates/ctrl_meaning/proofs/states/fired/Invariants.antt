@@ -1,5 +1,5 @@
 use Rattle.std.proofs.Common.{◌≡◌, true, Ok}
-use Rattle.weighing.specs.Asked.{asked}
+use Rattle.weighing.specs.Queries.{asked}
 use Rattle.ctrl_meaning.specs.Steps.{guard_outcome}
 use Rattle.ctrl_meaning.proofs.states.fired.Given as goal
 

@@ -11,12 +11,12 @@ use Rattle.run_rows.specs.declared.rows.Run.{Run}
 use Rattle.ctrl_types.specs.declared.expressions.Lin.{Lin}
 use Rattle.ctrl_meaning.specs.Expressions.{lin_terms, scale_with}
 use Rattle.ctrl_meaning.specs.Steps.{set_claim}
-use Rattle.ctrl_meaning.specs.declared.readings.Reading.{Reading}
+use Rattle.ctrl_meaning.specs.declared.readings.ReadPoint.{ReadPoint}
 use Rattle.claim_values.proofs.Sums.{entry_is, factor_is, given}
 use Rattle.ctrl_meaning.proofs.states.has_value.Goals as goal
 
 -- the state's term, and then those of the expression
-valued : (r : Run) (at : Reading) (j scale : ℕ) (lin : Lin) (k x : ℤ) (w0 w1 w2 : Weight) → scale ≡ scale_with 1 lin.terms
+valued : (r : Run) (at : ReadPoint) (j scale : ℕ) (lin : Lin) (k x : ℤ) (w0 w1 w2 : Weight) → scale ≡ scale_with 1 lin.terms
     → given k ≡ pos scale → given x ≡ state_of r at.row at.flow j → w0 ≡ start at.row → w1 ≡ added w0 (given k) (given x)
     → w2 ≡ weighed_from w1 (lin_terms (in_run r) at Right scale lin.terms) → related Equal w2.sum ≡ outcome at.row (set_claim (in_run r) at j (Some lin))
 valued r at j scale lin k x w0 w1 w2 scale_is k_is x_is begun one two =

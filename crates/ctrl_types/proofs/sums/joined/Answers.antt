@@ -1,7 +1,7 @@
 use Rattle.std.proofs.Common.{◌≡◌, ℕ, pos, to_z, of_z, sym, arith}
 use Rattle.std.specs.Int.{w128}
 use Rattle.std.proofs.lemmas.Int.{ints}
-use Rattle.whole.proofs.Passing.{whole_some}
+use Rattle.whole.proofs.Overflow.{whole_some}
 use Rattle.weighing.specs.Scaled.{common}
 use Rattle.ctrl_types.proofs.DenominatorLaws.{is_next, kept}
 use Rattle.ctrl_types.proofs.sums.joined.Goals as goal

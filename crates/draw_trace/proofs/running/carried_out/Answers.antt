@@ -9,12 +9,12 @@ use Rattle.draw_trace.specs.Ordered.{ordered}
 use Rattle.draw_trace.specs.Drawing.{Answers}
 use Rattle.draw_trace.specs.Requests.{Order}
 use Rattle.draw_trace.specs.Shown.{shown}
-use Rattle.draw_trace.specs.declared.fetching.Halt.{Halt}
-use Rattle.draw_trace.specs.declared.fetching.Halt.TheVariants as halts
+use Rattle.draw_trace.specs.declared.fetching.EarlyEnd.{EarlyEnd}
+use Rattle.draw_trace.specs.declared.fetching.EarlyEnd.TheVariants as halts
 use Rattle.draw_trace.specs.declared.reports.Report.{Report}
 use Rattle.draw_trace.proofs.running.carried_out.Goals as goal
 
-stopped : (old new : Told) (order : Order) (halt : Halt) (report : Report) → halt ≡ halts.Report report
+stopped : (old new : Told) (order : Order) (halt : EarlyEnd) (report : Report) → halt ≡ halts.Report report
     → HaltsBy (BothEnd old new order.question order.trace) halt → Settles old new order (shown report)
 stopped old new order halt report is ends = stops (subst (HaltsBy (BothEnd old new order.question order.trace)) is ends)
 

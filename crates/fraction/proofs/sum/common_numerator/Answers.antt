@@ -1,7 +1,7 @@
 use Rattle.std.proofs.Common.{rules, ◌≡◌, ◌+ℤ◌, ◌*ℤ◌, unsigned_abs, ◌<◌, ◌≤◌, FitsSigned, to_z, of_z, to_z-of_z, inl, inr, ap₂, subst, ◌∙◌}
 use Rattle.std.specs.Int.{w128}
 use Rattle.std.proofs.lemmas.Result.{IfOk-weaker, on_ok_weaker, on_err_weaker}
-use Rattle.fraction.proofs.SumSteps.{on_err_of, passes_none}
+use Rattle.fraction.proofs.SumSteps.{on_err_of, overflows_none}
 use Rattle.fraction.proofs.sum.common_numerator.Goals as goal
 use Rattle.fraction.proofs.sum.common_numerator.Goals.{After-bounded_sum}
 use Rattle.fraction.proofs.sum.common_numerator.Given.{Over}
@@ -40,7 +40,7 @@ returns-clause-kept g c =
     let left = simp to_z-of_z at c.in_ok-left.ensures.kept in
     let right = simp to_z-of_z at c.in_ok-right.ensures.kept in
     on_ok_weaker c.bounded_sum.result
-    (λ h. passes_none g.L.Limit.LIMIT c.args.m c.args.n c.args.dens.num c.args.dens.den c.args.d over left right
+    (λ h. overflows_none g.L.Limit.LIMIT c.args.m c.args.n c.args.dens.num c.args.dens.den c.args.d over left right
     (subst (λ z. unsigned_abs z ≤ g.L.Limit.LIMIT) (summed g c) h))
     c.bounded_sum.ensures.kept
 

@@ -3,7 +3,7 @@ use Rattle.farkas_cert.specs.Trees.{tree_of}
 use Rattle.clause_form.specs.Derivations.{rows_of}
 use Rattle.clause_form.specs.Journals.{literals}
 use Rattle.learned_clause.specs.Trails.{entries, known_with}
-use Rattle.learned_clause.specs.Walks.{AreApart}
+use Rattle.learned_clause.specs.Resolvents.{AreApart}
 use Rattle.learned_clause.proofs.EndLaws.{exact_law, learned_law}
 use Rattle.learned_clause.proofs.PlaceLaws.{trail_apart}
 use Rattle.learned_clause.proofs.ResolutionLaws.{start_has}

@@ -8,7 +8,7 @@ use Rattle.clause_form.specs.Journals.{literals}
 use Rattle.learned_clause.specs.Learning.{IsFalseStart}
 use Rattle.learned_clause.specs.Resolutions.{AreFalseAt}
 use Rattle.learned_clause.specs.Trails.{entries, known_with}
-use Rattle.learned_clause.specs.Walks.{AreMarked, AreOn}
+use Rattle.learned_clause.specs.Resolvents.{AreMarked, AreOn}
 use Rattle.learned_clause.specs.declared.learning.Start.{Start}
 use Rattle.learned_clause.proofs.MarkLaws.{part_lit}
 use Rattle.learned_clause.proofs.ResolutionLaws.{on_marked, on_parts}

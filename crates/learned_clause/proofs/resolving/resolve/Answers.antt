@@ -1,6 +1,6 @@
 use Rattle.std.proofs.Common.{◌≡◌, ℕ, ◌+◌, ◌-◌, arith, subst}
 use Rattle.learned_clause.specs.Trails.{entries, known_with}
-use Rattle.learned_clause.specs.Walks.{IsResolved}
+use Rattle.learned_clause.specs.Resolvents.{IsResolved}
 use Rattle.learned_clause.proofs.resolving.resolve.Goals as goal
 
 pub loop-marks-preserved : goal.loop-marks-preserved

@@ -3,7 +3,7 @@ use Rattle.farkas_cert.specs.Trees.{tree_of}
 use Rattle.farkas_cert.specs.declared.literals.Lit.{Lit}
 use Rattle.clause_form.specs.Derivations.{rows_of}
 use Rattle.learned_clause.specs.Trails.{entries, known_with}
-use Rattle.learned_clause.specs.Walks.{IsResolved, IsWalk}
+use Rattle.learned_clause.specs.Resolvents.{IsResolved, IsWalk}
 use Rattle.learned_clause.proofs.resolving.resolve.Given as goal
 
 abbrev pub invariant-loop-marks : goal.invariant-loop-marks

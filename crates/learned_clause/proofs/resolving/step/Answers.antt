@@ -4,7 +4,7 @@ use Rattle.farkas_cert.specs.Trees.{tree_of}
 use Rattle.farkas_cert.specs.declared.literals.Lit.{Lit}
 use Rattle.clause_form.specs.Derivations.{rows_of}
 use Rattle.learned_clause.specs.Trails.{entries, entry, known_with}
-use Rattle.learned_clause.specs.Walks.{IsResolved, IsWalk, resolved}
+use Rattle.learned_clause.specs.Resolvents.{IsResolved, IsWalk, resolved}
 use Rattle.learned_clause.proofs.ResolutionLaws.{skip_resolved, step_resolved}
 use Rattle.learned_clause.proofs.StepLaws.{step_below, step_known, walk_back, walk_skip}
 use Rattle.learned_clause.proofs.resolving.step.Goals as goal

@@ -1,5 +1,5 @@
 use Rattle.learned_clause.specs.Trails.{entries}
-use Rattle.learned_clause.specs.Walks.{NoneOn}
+use Rattle.learned_clause.specs.Resolvents.{NoneOn}
 use Rattle.learned_clause.proofs.scans.first_on.Given as goal
 
 abbrev pub invariant-loop-k : goal.invariant-loop-k

@@ -1,6 +1,6 @@
 use Rattle.std.proofs.Common.{◌≤◌}
 use Rattle.learned_clause.specs.Trails.{entries}
-use Rattle.learned_clause.specs.Walks.{NoneDecided}
+use Rattle.learned_clause.specs.Resolvents.{NoneDecided}
 use Rattle.learned_clause.proofs.scans.last_decision.Given as goal
 
 abbrev pub invariant-loop-last : goal.invariant-loop-last

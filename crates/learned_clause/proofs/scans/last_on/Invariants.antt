@@ -1,6 +1,6 @@
 use Rattle.std.proofs.Common.{◌≤◌}
 use Rattle.learned_clause.specs.Trails.{entries}
-use Rattle.learned_clause.specs.Walks.{NoneOn}
+use Rattle.learned_clause.specs.Resolvents.{NoneOn}
 use Rattle.learned_clause.proofs.scans.last_on.Given as goal
 
 abbrev pub invariant-loop-last : goal.invariant-loop-last

@@ -18,4 +18,4 @@ returns-in-None-clause-stuck c =
     let unit : FitsSigned w128 c.args.unit = c.ranges.unit in
     let divisor : FitsSigned w128 c.common_divisor.result = fits_signed_from_abs w128 c.common_divisor.result c.common_divisor.ensures.within in
     let quotient : FitsSigned w128 c.quotient.result = fits_signed_from_abs w128 c.quotient.result c.quotient.ensures.within in
-    stuck_lcm c.args.piece c.args.position c.args.least c.args.unit c.quotient.result c.common_divisor.result c.passing.result (simp to_z-of_z at c.passing.ensures) (simp to_z-of_z at c.quotient.ensures.exact) (simp to_z-of_z at c.common_divisor.ensures.exact) c.requires.unit_some (simp to_z-of_z at c.in-None.ensures.exact)
+    stuck_lcm c.args.piece c.args.position c.args.least c.args.unit c.quotient.result c.common_divisor.result c.overflowing.result (simp to_z-of_z at c.overflowing.ensures) (simp to_z-of_z at c.quotient.ensures.exact) (simp to_z-of_z at c.common_divisor.ensures.exact) c.requires.unit_some (simp to_z-of_z at c.in-None.ensures.exact)

@@ -1,11 +1,12 @@
-use Rattle.std.proofs.Common.{◌≡◌, ◌∙◌, sym, subst, Ok, take}
+use Rattle.std.proofs.Common.{◌≡◌, ◌∙◌, sym, subst, IfErr, Ok, take}
 use Rattle.std.proofs.lemmas.Result.{err_from_is_err_and}
 use Rattle.std.proofs.lemmas.List.{take_all}
 use Rattle.weighing.specs.First.{first}
 use Rattle.weighing.proofs.Events.{first-flat_map, first_stops_at}
 use Rattle.path_server.specs.Places.{Finds, examined, places_of_row, places_of_rule, rules}
+use Rattle.path_server.specs.declared.admission.Admit.TheVariants.{Yes}
 use Rattle.path_server.specs.declared.path_rules.PathRule.TheVariants.{Start}
-use Rattle.path_server.proofs.AdmissionLaws.{finds_law}
+use Rattle.path_server.proofs.AdmissionLaws.{finds_law, stops_law}
 use Rattle.path_server.proofs.admission.examine_row.Goals as goal
 
 pub returns-in_err-examine_rule-clause-exact : goal.returns-in_err-examine_rule-clause-exact
@@ -33,3 +34,8 @@ pub returns-clause-means : goal.returns-clause-means
 returns-clause-means c =
     subst (Finds c.args.path.now c.args.run.now (places_of_row c.args.run.now c.args.row)) (sym (returns-clause-exact c))
     (finds_law c.args.path.now c.args.run.now (places_of_row c.args.run.now c.args.row) c.requires.path_in)
+
+pub returns-in_err-examine_rule-clause-stops : goal.returns-in_err-examine_rule-clause-stops
+returns-in_err-examine_rule-clause-stops c =
+    subst (λ found. IfErr found (λ stop. stop ≡ Yes → ⊥)) (sym (returns-in_err-examine_rule-clause-exact c))
+    (stops_law c.args.path.now c.args.run.now (places_of_row c.args.run.now c.args.row))

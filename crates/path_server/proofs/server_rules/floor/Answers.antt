@@ -29,7 +29,7 @@ returns c =
     c.stands.ensures.exact ∙ ap (λ (w : Weight). related AtLeast w.sum)
     (two_parts c.args.row c.new.result c.plus_service-served.result c.plus_allowance.result
     (λ s. service (in_run r) (flow_count r 0) s c.args.row) (λ s. allowance (in_run r) p s c.args.row p.jitter)
-    (factors c.of_rate-scale.result) (factors c.opposite-opposite.result) (rate_scale p) (opposite (rate_scale p))
+    (factors c.args.scales.now.rate) (factors c.opposite-opposite.result) (rate_scale p) (opposite (rate_scale p))
     c.new.ensures c.plus_service-served.ensures c.plus_allowance.ensures
-    c.of_rate-scale.ensures.value (c.opposite-opposite.ensures.value ∙ ap opposite c.of_rate-scale.ensures.value))
+    c.requires.scales_in.rate_value (c.opposite-opposite.ensures.value ∙ ap opposite c.requires.scales_in.rate_value))
     ∙ sym (of_path r p c.args.row c.args.flow c.if-flow-gt0.false)

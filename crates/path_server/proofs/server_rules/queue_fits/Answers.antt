@@ -19,7 +19,7 @@ returns c =
     c.stands.ensures.exact ∙ ap (λ (w : Weight). related AtLeast w.sum)
     (three_parts c.args.row c.new.result c.plus_allowance-allowed.result c.plus_room-roomy.result c.plus_accepted.result
     (λ s. allowance (in_run r) p s c.args.row 0) (λ s. room (in_run r) b s) (λ s. accepted (in_run r) (flow_count r 0) s c.args.row)
-    (factors c.of_buffer-scale.result) (factors c.of_buffer-scale.result) (factors c.opposite-opposite.result)
+    (factors c.args.scale.now) (factors c.args.scale.now) (factors c.opposite-opposite.result)
     (common_scale p b) (common_scale p b) (opposite (common_scale p b))
     c.new.ensures c.plus_allowance-allowed.ensures c.plus_room-roomy.ensures c.plus_accepted.ensures
-    c.of_buffer-scale.ensures.value c.of_buffer-scale.ensures.value (c.opposite-opposite.ensures.value ∙ ap opposite c.of_buffer-scale.ensures.value))
+    c.requires.scale_value c.requires.scale_value (c.opposite-opposite.ensures.value ∙ ap opposite c.requires.scale_value))

@@ -7,7 +7,7 @@ use Rattle.asked.specs.Asked.{AreAsked, AskFails}
 use Rattle.asked.specs.declared.asking.AskFault.{AskFault}
 use Rattle.asked.specs.declared.asking.AskFault.TheVariants as fault
 use Rattle.problem_smt.specs.Problems.{Answers, answer_of, controller_refused, posed, problem_of, question_refused}
-use Rattle.problem_smt.specs.Refusals.{SaysOfFault}
+use Rattle.problem_smt.specs.AskRefusals.{SaysOfFault}
 use Rattle.problem_smt.specs.Reports.{Answer}
 use Rattle.problem_smt.specs.Shown.{shown}
 use Rattle.problem_smt.specs.declared.reports.Report.{Report}

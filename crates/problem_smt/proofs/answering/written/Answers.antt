@@ -22,8 +22,8 @@ module _ (kind : Kind) (made : Result Clauses What) where
   shows_limit : (fault : BuildFault) (what : What) (limit : ℕ) (answer : Answer) → fault ≡ Large what limit → Fails fault made
       → answer ≡ too_large what limit → answer ≡ answer_of kind made
   shows_limit fault what limit answer is fails shows =
-      let passes = subst (λ (f : BuildFault). Fails f made) is fails in
-      shows ∙ ap (too_large what) passes.1 ∙ ap (answer_of kind) (sym passes.0)
+      let overflows = subst (λ (f : BuildFault). Fails f made) is fails in
+      shows ∙ ap (too_large what) overflows.1 ∙ ap (answer_of kind) (sym overflows.0)
 
 pub returns-in_ok-text_of-in-Ok : goal.returns-in_ok-text_of-in-Ok
 returns-in_ok-text_of-in-Ok c = shows_text _ _ _ _ c.in-Ok.ensures.exact c.in_ok-text_of-in-Ok.ensures

@@ -9,12 +9,12 @@ use Rattle.problem_smt.specs.Ordered.{ordered}
 use Rattle.problem_smt.specs.Problems.{Answers}
 use Rattle.problem_smt.specs.Requests.{Order}
 use Rattle.problem_smt.specs.Shown.{shown}
-use Rattle.problem_smt.specs.declared.fetching.Halt.{Halt}
-use Rattle.problem_smt.specs.declared.fetching.Halt.TheVariants as halts
+use Rattle.problem_smt.specs.declared.fetching.EarlyEnd.{EarlyEnd}
+use Rattle.problem_smt.specs.declared.fetching.EarlyEnd.TheVariants as halts
 use Rattle.problem_smt.specs.declared.reports.Report.{Report}
 use Rattle.problem_smt.proofs.running.carried_out.Goals as goal
 
-stopped : (old new : Told) (order : Order) (halt : Halt) (report : Report) → halt ≡ halts.Report report
+stopped : (old new : Told) (order : Order) (halt : EarlyEnd) (report : Report) → halt ≡ halts.Report report
     → HaltsBy (BothEnd old new order.controller order.question) halt → Settles old new order (shown report)
 stopped old new order halt report is ends = stops (subst (HaltsBy (BothEnd old new order.controller order.question)) is ends)
 

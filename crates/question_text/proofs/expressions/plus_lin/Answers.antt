@@ -6,7 +6,7 @@ use Rattle.claim_values.proofs.Sums.{factor_is, piece_more}
 use Rattle.question_text.specs.declared.conditions.QTerm.{QTerm}
 use Rattle.question_text.specs.declared.conditions.Of.TheVariants.{One}
 use Rattle.question_text.specs.Expressions.{lin_terms, term_terms}
-use Rattle.question_text.specs.Names.{of_terms}
+use Rattle.question_text.specs.NameMeanings.{of_terms}
 use Rattle.question_text.proofs.expressions.plus_lin.Goals as goal
 
 abbrev none : QTerm

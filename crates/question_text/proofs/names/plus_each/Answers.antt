@@ -2,7 +2,7 @@ use Rattle.std.proofs.Common.{◌∙◌, ap, ◌∷◌, []}
 use Rattle.weighing.specs.Weighed.{added, times}
 use Rattle.path_server.proofs.Flows.{one_more_flow}
 use Rattle.claim_values.proofs.Sums.{entry_is, given}
-use Rattle.question_text.specs.Names.{counted}
+use Rattle.question_text.specs.NameMeanings.{counted}
 use Rattle.question_text.proofs.names.plus_each.Goals as goal
 
 pub loop-index-preserved : goal.loop-index-preserved

@@ -1,7 +1,7 @@
 use Rattle.std.proofs.Common.{◌≡◌, ◌∷◌, []}
 use Rattle.weighing.specs.Weighed.{times, weighed_from}
 use Rattle.claims.specs.Subjects.{each_flow}
-use Rattle.question_text.specs.Names.{counted}
+use Rattle.question_text.specs.NameMeanings.{counted}
 use Rattle.question_text.proofs.names.plus_each.Given as goal
 
 -- the terms of the flows passed so far are in the sum

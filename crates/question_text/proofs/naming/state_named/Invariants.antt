@@ -1,6 +1,6 @@
 use Rattle.std.proofs.Common.{◌≡◌, drop}
 use Rattle.std.specs.List.{position_from}
-use Rattle.question_text.specs.Naming.{has_name}
+use Rattle.question_text.specs.NamedValues.{has_name}
 use Rattle.question_text.proofs.naming.state_named.Given as goal
 
 -- the states to come have the first one with the name

@@ -1,7 +1,7 @@
 use Rattle.std.proofs.Common.{◌++◌, arith}
 use Rattle.std.proofs.lemmas.Int.{ints}
 use Rattle.ctrl_types.proofs.DenominatorLaws.{least_over}
-use Rattle.question_text.specs.Resolving.{numbers}
+use Rattle.question_text.specs.StatementRules.{numbers}
 use Rattle.question_text.proofs.Scales.{least_scale}
 use Rattle.question_text.proofs.telling.scales_are_least.Goals as goal
 

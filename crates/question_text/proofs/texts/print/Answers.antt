@@ -1,4 +1,4 @@
-use Rattle.question_text.specs.Resolving.{question_seen}
+use Rattle.question_text.specs.StatementRules.{question_seen}
 use Rattle.question_text.proofs.PrintLaws.{prints_again}
 use Rattle.question_text.proofs.texts.print.Goals as goal
 

@@ -4,8 +4,8 @@ use Rattle.path_server.specs.declared.settings.Setting.{Setting}
 use Rattle.condition_syntax.specs.Trees as written
 use Rattle.condition_syntax.specs.declared.conditions.Cond.{Cond}
 use Rattle.ctrl_types.specs.declared.controllers.State.{State}
-use Rattle.question_text.specs.Naming.{each_found}
-use Rattle.question_text.specs.Resolving.{meant}
+use Rattle.question_text.specs.NamedValues.{each_found}
+use Rattle.question_text.specs.StatementRules.{meant}
 use Rattle.question_text.proofs.TreeLaws.{And_gives, And_fails, Or_gives, Or_fails, each_found-map, part_meant, parts_go_on, parts_fail, parts_end}
 use Rattle.question_text.proofs.trees.+resolved.Goals as goal
 

@@ -1,6 +1,6 @@
 use Rattle.std.proofs.Common.{◌≡◌, drop, map}
 use Rattle.question_text.specs.Conditions.{condition_of}
-use Rattle.question_text.specs.Naming.{each_found}
+use Rattle.question_text.specs.NamedValues.{each_found}
 use Rattle.question_text.proofs.FoundLoop.{behind}
 use Rattle.question_text.proofs.TreeLaws.{part_meant}
 use Rattle.question_text.proofs.trees.+resolved.Given as goal

@@ -1,5 +1,5 @@
 use Rattle.std.proofs.Common.{ap, sym, ◌∙◌, Err}
-use Rattle.question_text.specs.Naming.{term_meant}
+use Rattle.question_text.specs.NamedValues.{term_meant}
 use Rattle.question_text.proofs.FoundLoop.{goes_on, stops, ends}
 use Rattle.question_text.proofs.TreeLaws.{lin_found, lin_missing, term_found, term_missing}
 use Rattle.question_text.proofs.trees.lin.Goals as goal

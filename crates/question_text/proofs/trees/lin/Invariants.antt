@@ -1,5 +1,5 @@
 use Rattle.std.proofs.Common.{◌≡◌, drop}
-use Rattle.question_text.specs.Naming.{each_found, term_meant}
+use Rattle.question_text.specs.NamedValues.{each_found, term_meant}
 use Rattle.question_text.proofs.FoundLoop.{behind}
 use Rattle.question_text.proofs.trees.lin.Given as goal
 

@@ -1,5 +1,5 @@
 use Rattle.std.proofs.Common.{◌≡◌, ◌++◌, drop, map}
-use Rattle.question_text.specs.Naming.{term_written}
+use Rattle.question_text.specs.NamedValues.{term_written}
 use Rattle.question_text.proofs.writing.lin.Given as goal
 
 abbrev pub invariant-loop-part : goal.invariant-loop-part

@@ -12,7 +12,7 @@ use Rattle.question_text.specs.declared.questions.Question.{Question}
 use Rattle.question_text.specs.Violation.{violation}
 use Rattle.trace_replay.specs.Replaying.{answer, found, places_of_rows, replaying}
 use Rattle.trace_replay.specs.declared.replaying.Replayed.{Replayed}
-use Rattle.trace_replay.proofs.Findings.{shaped, unshaped}
+use Rattle.trace_replay.proofs.ReplayOrder.{shaped, unshaped}
 use Rattle.trace_replay.proofs.replaying.examine.Goals as goal
 
 -- the code's test of the shape is the test of the definitions
@@ -34,7 +34,7 @@ pub returns-then-not-fits : goal.returns-then-not-fits
 returns-then-not-fits c =
     let is = tested c.args.controller.now c.args.question.now c.args.run.now c.shape-shape.result c.len-states.result c.fits.result
     c.shape-shape.ensures c.len-states.ensures c.fits.ensures in
-    c.broken.ensures ∙ sym (unshaped c.args.controller.now c.args.question.now c.args.run.now (is ∙ c.if-not-fits.true))
+    sym (unshaped c.args.controller.now c.args.question.now c.args.run.now (is ∙ c.if-not-fits.true))
 
 pub returns-in-Ok : goal.returns-in-Ok
 returns-in-Ok c =

@@ -1,6 +1,6 @@
 use Rattle.std.proofs.Common.{◌≡◌, sym, ◌∙◌, ap, subst}
 use Rattle.weighing.specs.Claim.{compare, outcome}
-use Rattle.weighing.specs.Passing.{Answers}
+use Rattle.weighing.specs.Overflow.{Answers}
 use Rattle.weighing.specs.Weight.{Weight}
 use Rattle.weighing.specs.Weighed.{related, weighed_from}
 use Rattle.weighing.proofs.Claims.{outcome_answers}

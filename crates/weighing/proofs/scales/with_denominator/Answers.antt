@@ -3,7 +3,7 @@ use Rattle.std.specs.Int.{w128}
 use Rattle.std.proofs.lemmas.Int.{ints}
 use Rattle.whole.specs.Numbers.{IsLcm}
 use Rattle.whole.proofs.Divisors.{IsLcm-lcm_of}
-use Rattle.whole.proofs.Passing.{signed}
+use Rattle.whole.proofs.Overflow.{signed}
 use Rattle.weighing.specs.Scaled.{common, den_of}
 use Rattle.weighing.proofs.scales.with_denominator.Goals as goal
 

@@ -3,7 +3,7 @@ use Rattle.std.specs.Int.{w128}
 use Rattle.std.proofs.lemmas.Int.{to_z-of_z, ints}
 use Rattle.whole.specs.Numbers.{whole, gcd_of, lcm_of}
 use Rattle.whole.proofs.Divisors.{lcm_of_is}
-use Rattle.whole.proofs.Passing.{whole_none}
+use Rattle.whole.proofs.Overflow.{whole_none}
 use Rattle.whole.proofs.numbers.lcm.Goals as goal
 
 -- the code's quotient times b is the least common multiple

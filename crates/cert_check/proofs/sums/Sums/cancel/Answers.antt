@@ -5,4 +5,4 @@ use Rattle.cert_check.proofs.sums.Sums.cancel.Goals as goal
 
 pub returns : goal.returns
 returns c =
-    subst (λ (v : List (Option ℤ)). IsTrue (nat_eq c.self.inside.unsettled 0) ↔ IsCleared (length v) v) c.self.view_is (cancel_law c.self.inside.sums.items c.self.inside.unsettled c.self.inside.passed c.self.invariant)
+    subst (λ (v : List (Option ℤ)). IsTrue (nat_eq c.self.inside.unsettled 0) ↔ IsCleared (length v) v) c.self.view_is (cancel_law c.self.inside.sums.items c.self.inside.unsettled c.self.inside.overflowed c.self.invariant)

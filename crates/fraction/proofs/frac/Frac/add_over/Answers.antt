@@ -2,7 +2,7 @@ use Rattle.std.proofs.Common.{rules, ◌≡◌, ◌≤◌, ◌≤ℤ◌, pos, �
 use Rattle.std.specs.Int.{w128}
 use Rattle.lowest_terms.specs.Coprime.{IsCoprime}
 use Rattle.lowest_terms.proofs.Reduction.{reduced_positive}
-use Rattle.fraction.specs.Sums.{SumPasses}
+use Rattle.fraction.specs.Sums.{SumOverflows}
 use Rattle.fraction.specs.Value.{same_value}
 use Rattle.fraction.proofs.SumSteps.{on_err_of}
 use Rattle.fraction.proofs.Dividing.{scaled_value}
@@ -46,7 +46,7 @@ num_is g c =
     let n : FitsSigned w128 c.args.other.num = search rules in
     simp to_z-of_z at c.in_ok-num.ensures.exact
 
-kept : (g : Over) (c : In_ok-num g) → SumPasses g.L.Limit.LIMIT c.args.self.num c.args.other.num c.args.dens.num c.args.dens.den c.args.other.den → ⊥
+kept : (g : Over) (c : In_ok-num g) → SumOverflows g.L.Limit.LIMIT c.args.self.num c.args.other.num c.args.dens.num c.args.dens.den c.args.other.den → ⊥
 kept g c =
     let m : FitsSigned w128 c.args.self.num = search rules in
     let n : FitsSigned w128 c.args.other.num = search rules in

@@ -1,5 +1,5 @@
 use Rattle.std.proofs.Common.{take}
-use Rattle.learned_clause.specs.Walks.{AreMarked}
+use Rattle.learned_clause.specs.Resolvents.{AreMarked}
 use Rattle.learned_clause.proofs.marks.Marks.mark_all.Given as goal
 
 abbrev pub invariant-loop-lit : goal.invariant-loop-lit

@@ -1,6 +1,6 @@
 use Rattle.std.proofs.Common.{map, take}
 use Rattle.learned_clause.specs.LightTrees.{AreWithin}
-use Rattle.learned_clause.specs.Walks.{AreMarked}
+use Rattle.learned_clause.specs.Resolvents.{AreMarked}
 use Rattle.learned_clause.proofs.marks.Marks.mark_parts.Given as goal
 
 abbrev pub invariant-loop-part : goal.invariant-loop-part

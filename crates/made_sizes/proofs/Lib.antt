@@ -1,0 +1,7 @@
+pub mod Measures
+pub mod FlowMeasures
+pub mod PathMeasures
+pub mod QuestionMeasures
+pub mod FormulaSizes
+pub mod FromTexts
+pub mod Converted

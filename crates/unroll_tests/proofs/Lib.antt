@@ -1,0 +1,2 @@
+pub mod ExamplePaths
+pub mod ExampleShapes
