@@ -1,14 +1,14 @@
--- How a clause stands with one literal more, and what that says of all clauses.
-use Rattle.std.proofs.Common.{◌≡◌, ℕ, zero, suc, ◌+◌, ◌<◌, ◌⊎◌, inl, inr, List, [], ◌∷◌, ◌++◌, take, drop, length, slice_get, Option, None, Some, refl, sym, ◌∙◌, ap, subst, arith}
+-- How a clause stands with one literal more, and what that says of it.
+use Rattle.std.proofs.Common.{◌≡◌, ℕ, inl, inr, List, [], ◌∷◌, ◌++◌, take, drop, refl, sym, ◌∙◌, ap, subst}
 use Rattle.std.proofs.lemmas.List.{take-append-drop}
 use Rattle.farkas_cert.specs.Literals.{negation}
 use Rattle.farkas_cert.specs.declared.literals.Lit.{Lit}
 use Rattle.clause_form.specs.Derivations.{Has, HasAtom, IsFalseOn, NamesOnce}
-use Rattle.clause_form.specs.Journals.{IsOpenClause, IsSettled}
+use Rattle.clause_form.specs.Journals.{IsOpenClause}
 use Rattle.clause_search.specs.declared.standing.Standing.{Standing}
 use Rattle.clause_search.specs.declared.standing.Standing.TheVariants.{Satisfied, Open, Unit as Single, False}
-use Rattle.clause_search.specs.Standings.{HasOther, IfWanted, IsWanted, StandsAs, StandsAt, earlier_of}
-use Rattle.clause_search.proofs.LiteralLaws.{false_has, false_more, has_atom, has_front, has_last, opposite, others_has, others_more, others_of_false, settled_each}
+use Rattle.clause_search.specs.Standings.{HasOther, StandsAs}
+use Rattle.clause_search.proofs.LiteralLaws.{false_has, false_more, has_atom, has_front, has_last, opposite, others_has, others_more, others_of_false}
 
 pub true_more : (lits front : List Lit) (l : Lit) → Has l lits → StandsAs lits (front ++ l ∷ []) Satisfied
 true_more lits front l h = (l, has_last l front, h)
@@ -69,53 +69,3 @@ open_by_two lits clause l s = record {
         | inr f ↦ s.1 (has_atom (negation l) lits f)
       ];
 }
-
--- the clauses below a number are neither
-abbrev pub AreOpenBelow : List (List Lit) → List Lit → ℕ → Type 0
-AreOpenBelow known lits n = (k : ℕ) (clause : List Lit) → k < n → slice_get known k ≡ Some clause → IsOpenClause lits clause
-
-same_clause : (known : List (List Lit)) (k n : ℕ) (x y : List Lit) → k ≡ n → slice_get known k ≡ Some x → slice_get known n ≡ Some y → y ≡ x
-same_clause known k n x y e f g = same (sym g ∙ ap (slice_get known) (sym e) ∙ f)
-  where
-    same : ◌≡◌ {A = Option (List Lit)} (Some y) (Some x) → y ≡ x
-    same h = cc
-
-open_more : (known : List (List Lit)) (lits : List Lit) (n : ℕ) (x : List Lit) → AreOpenBelow known lits n → slice_get known n ≡ Some x
-    → IsOpenClause lits x → AreOpenBelow known lits (n + 1)
-open_more known lits n x below e opens k clause less is = elim (split k n less) [
-  | inl before ↦ below k clause before is
-  | inr at ↦ subst (λ (y : List Lit). IsOpenClause lits y) (same_clause known k n clause x at is e) opens
-]
-  where
-    split : (k n : ℕ) → k < n + 1 → (k < n) ⊎ (k ≡ n)
-    split zero zero h = inr refl
-    split zero (suc n) h = inl (omega arith)
-    split (suc k) zero h = absurd (omega arith)
-    split (suc k) (suc n) h = elim (split k n (omega arith)) [ inl a ↦ inl (omega arith) | inr b ↦ inr (ap suc b) ]
-
-pub open_more_true : (known : List (List Lit)) (m : ℕ) (lits : List Lit) (n : ℕ) → NamesOnce m lits → AreOpenBelow known lits n
-    → StandsAt known lits n Satisfied → AreOpenBelow known lits (n + 1)
-open_more_true known m lits n once below at = open_more known lits n at.clause below at.is (open_by_true m lits at.clause once at.stands)
-
-pub open_more_two : (known : List (List Lit)) (lits : List Lit) (n : ℕ) (l : Lit) → AreOpenBelow known lits n → StandsAt known lits n (Open l)
-    → AreOpenBelow known lits (n + 1)
-open_more_two known lits n l below at = open_more known lits n at.clause below at.is (open_by_two lits at.clause l at.stands)
-
-pub wanted : (known : List (List Lit)) (lits : List Lit) (n : ℕ) (l : Lit) → StandsAt known lits n (Open l) → IsWanted known lits l
-wanted known lits n l at = record { number = n; clause = at.clause; is = at.is; has = at.stands.0; off = at.stands.1 }
-
-pub all_settled : (known : List (List Lit)) (lits : List Lit) (n : ℕ) → n ≡ length known → AreOpenBelow known lits n → IsSettled known lits
-all_settled known lits n e below = settled_each known lits (λ k clause is. below k clause (subst (λ (m : ℕ). k < m) (sym e) (within known k clause is)) is)
-  where
-    within : (xs : List (List Lit)) (k : ℕ) (x : List Lit) → slice_get xs k ≡ Some x → k < length xs
-    within [] k x e = absurd (cc)
-    within (y ∷ xs) zero x e = omega arith
-    within (y ∷ xs) (suc k) x e = let rest : k < length xs = within xs k x e in omega arith
-
-pub wish_more : (known : List (List Lit)) (lits : List Lit) (n : ℕ) (wish wish' : Option Lit) (l : Lit) → wish' ≡ earlier_of wish l
-    → IfWanted known lits wish → StandsAt known lits n (Open l) → IfWanted known lits wish'
-wish_more known lits n wish wish' l e before at = subst (λ (w : Option Lit). IfWanted known lits w) (sym e) (by wish before)
-  where
-    by : (w : Option Lit) → IfWanted known lits w → IfWanted known lits (earlier_of w l)
-    by None is = wanted known lits n l at
-    by (Some first) is = is

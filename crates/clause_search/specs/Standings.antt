@@ -1,12 +1,10 @@
--- How a clause stands to the literals of a trail, and what a look at all clauses shows.
-use Rattle.std.specs.Prelude.{◌≡◌, ℕ, List, Option, None, Some, slice_get}
+-- How a clause stands to the literals of a trail, and what a search wants of the clauses.
+use Rattle.std.specs.Prelude.{◌≡◌, ℕ, ◌<◌, List, length, Option, None, Some, slice_get}
 use Rattle.farkas_cert.specs.declared.literals.Lit.{Lit}
 use Rattle.clause_form.specs.Derivations.{Has, HasAtom, IsFalseOn}
-use Rattle.clause_form.specs.Journals.{IsReason, IsSettled, OthersFalse}
+use Rattle.clause_form.specs.Journals.{IsReason, OthersFalse}
 use Rattle.clause_search.specs.declared.standing.Standing.{Standing}
 use Rattle.clause_search.specs.declared.standing.Standing.TheVariants.{Satisfied, Open, Unit as Single, False}
-use Rattle.clause_search.specs.declared.survey.Survey.{Survey}
-use Rattle.clause_search.specs.declared.survey.Survey.TheVariants as survey
 
 -- a literal of another kind than l, whose atom is off the trail
 pub record HasOther (lits : List Lit) (l : Lit) (clause : List Lit) : Type 0 where
@@ -32,22 +30,23 @@ abbrev pub IfStandsAt : List (List Lit) → List Lit → ℕ → Option Standing
 IfStandsAt known lits n None = Unit {0}
 IfStandsAt known lits n (Some standing) = StandsAt known lits n standing
 
--- a literal of a known clause, whose atom is off the trail
+-- each clause before this number has a true literal
+abbrev pub AreTrueBelow : List (List Lit) → List Lit → ℕ → Type 0
+AreTrueBelow known lits n = (k : ℕ) → k < n → StandsAt known lits k Satisfied
+
+-- a literal of a known clause, whose atom is off the trail; each clause before that one has a true literal
 pub record IsWanted (known : List (List Lit)) (lits : List Lit) (l : Lit) : Type 0 where
   pub number : ℕ
   pub clause : List Lit
   pub is : slice_get known number ≡ Some clause
   pub has : Has l clause
   pub off : HasAtom l.atom lits → ⊥
+  pub before : AreTrueBelow known lits number
 
+-- there is none only where each clause has a true literal
 abbrev pub IfWanted : List (List Lit) → List Lit → Option Lit → Type 0
-IfWanted known lits None = Unit {0}
+IfWanted known lits None = AreTrueBelow known lits (length known)
 IfWanted known lits (Some l) = IsWanted known lits l
-
--- the first wish stays
-abbrev pub earlier_of : Option Lit → Lit → Option Lit
-earlier_of None l = Some l
-earlier_of (Some first) l = Some first
 
 -- the clause with this number is false
 pub record IsFalseAt (known : List (List Lit)) (lits : List Lit) (n : ℕ) : Type 0 where
@@ -59,9 +58,3 @@ pub record IsFalseAt (known : List (List Lit)) (lits : List Lit) (n : ℕ) : Typ
 pub record Follows (known : List (List Lit)) (lits : List Lit) (l : Lit) (n : ℕ) : Type 0 where
   pub off : HasAtom l.atom lits → ⊥
   pub reason : IsReason known lits l n
-
--- a false clause, or one that gives a literal, or neither
-abbrev pub Surveys : List (List Lit) → List Lit → Survey → Type 0
-Surveys known lits (survey.False n) = IsFalseAt known lits n
-Surveys known lits (survey.Unit n l) = Follows known lits l n
-Surveys known lits (survey.Settled wish) = IsSettled known lits × IfWanted known lits wish

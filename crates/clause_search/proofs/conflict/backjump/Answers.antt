@@ -4,6 +4,6 @@ use Rattle.clause_search.proofs.conflict.backjump.Goals as goal
 
 pub returns-in-Ok-clause-steps : goal.returns-in-Ok-clause-steps
 returns-in-Ok-clause-steps g c s jump work most = (
-  cut_stage g.T.Theory.relations c.args.clauses.now s c.args.course.now c.cut.new.self (g.T.Theory.seen c.args.theory.now) (g.T.Theory.seen c.undo.new.self) (counts c.args.budget.now) (counts c.note_conflict.new.self) c.args.lemma c.args.keep jump c.in-Ok.ensures c.undo.ensures.told c.undo.ensures.state c.undo.ensures.rows c.undo.ensures.rest c.undo.ensures.owes c.note_conflict.ensures,
-  cut_less c.args.course.now c.cut.new.self (counts c.args.budget.now) (counts c.note_conflict.new.self) c.args.lemma c.args.keep work jump.cuts.within c.in-Ok.ensures c.note_conflict.ensures most,
+  cut_stage g.T.Theory.relations c.args.clauses.now s c.args.course.now c.cut.new.self (g.T.Theory.seen c.args.theory.now) (g.T.Theory.seen c.undo.new.self) (counts c.args.budget.now) (counts c.note_conflict.new.self) c.args.lemma c.args.keep c.how_many-number.result jump c.in-Ok.ensures c.undo.ensures.told c.undo.ensures.state c.undo.ensures.rows c.undo.ensures.rest c.undo.ensures.owes c.note_conflict.ensures,
+  cut_less c.args.course.now c.cut.new.self (counts c.args.budget.now) (counts c.note_conflict.new.self) c.args.lemma c.args.keep c.how_many-number.result work jump.cuts.within c.in-Ok.ensures c.note_conflict.ensures most,
 )

@@ -4,10 +4,10 @@ use Rattle.clause_search.proofs.conflict.conflict.Goals as goal
 
 pub best_lesson-requires : goal.best_lesson-requires
 best_lesson-requires g c =
-    let begun = conflict_begun g.T.Theory.relations c.args.clauses.now c.requires.0 c.args.course.now (g.T.Theory.seen c.args.theory.now) (counts c.args.budget.now) c.args.start c.requires.1 in record {
-      few = few_for g.T.Theory.relations c.args.clauses.now c.requires.0 c.args.course.now.trail c.args.course.now.lemmas c.args.course.now.journal.moves (g.T.Theory.seen c.args.theory.now) (counts c.args.budget.now) c.args.start c.as_slice.result.now c.args.budget.now.within begun c.as_slice.ensures;
-      trail = trail_for g.T.Theory.relations c.args.clauses.now c.requires.0 c.args.course.now.trail c.args.course.now.lemmas c.args.course.now.journal.moves (g.T.Theory.seen c.args.theory.now) (counts c.args.budget.now) c.args.start c.as_slice.result.now begun c.as_slice.ensures;
-      start = start_for g.T.Theory.relations c.args.clauses.now c.requires.0 c.args.course.now.trail c.args.course.now.lemmas c.args.course.now.journal.moves (g.T.Theory.seen c.args.theory.now) (counts c.args.budget.now) c.args.start c.as_slice.result.now begun c.as_slice.ensures;
+    let begun = conflict_begun g.T.Theory.relations c.args.clauses.now c.requires.start.0 c.args.course.now (g.T.Theory.seen c.args.theory.now) (counts c.args.budget.now) c.args.start c.requires.start.1 in record {
+      few = few_for g.T.Theory.relations c.args.clauses.now c.requires.start.0 c.args.course.now.trail c.args.course.now.lemmas c.args.course.now.journal.moves (g.T.Theory.seen c.args.theory.now) (counts c.args.budget.now) c.args.start c.as_slice.result.now c.args.budget.now.within begun c.as_slice.ensures;
+      trail = trail_for g.T.Theory.relations c.args.clauses.now c.requires.start.0 c.args.course.now.trail c.args.course.now.lemmas c.args.course.now.journal.moves (g.T.Theory.seen c.args.theory.now) (counts c.args.budget.now) c.args.start c.as_slice.result.now begun c.as_slice.ensures;
+      start = start_for g.T.Theory.relations c.args.clauses.now c.requires.start.0 c.args.course.now.trail c.args.course.now.lemmas c.args.course.now.journal.moves (g.T.Theory.seen c.args.theory.now) (counts c.args.budget.now) c.args.start c.as_slice.result.now begun c.as_slice.ensures;
     }
 
 pub returns-then-is_empty-clause-steps : goal.returns-then-is_empty-clause-steps
