@@ -1,5 +1,5 @@
 -- What an agenda covers: where the trail grows, where it is cut, and where nothing is left to look at.
-use Rattle.std.proofs.Common.{◌≡◌, ℕ, zero, suc, ◌+◌, ◌*◌, ◌<◌, Bool, true, false, not, ◌⊎◌, inl, inr, List, [], ◌∷◌, ◌++◌, length, get_or, set, Option, None, Some, slice_get, refl, sym, ◌∙◌, ap, subst, length-append, arith, if◌then◌else◌, get_or-set_same, get_or-set_other}
+use Rattle.std.proofs.Common.{◌≡◌, ℕ, zero, suc, ◌+◌, ◌*◌, ◌<◌, ◌≤◌, Bool, true, false, not, ◌⊎◌, inl, inr, List, [], ◌∷◌, ◌++◌, length, get_or, set, Option, None, Some, IsSome, IfSome, ◌↔◌, slice_get, refl, sym, ◌∙◌, ap, subst, length-append, arith, if◌then◌else◌, get_or-set_same, get_or-set_other}
 use Rattle.std.specs.List.{Contains}
 use Rattle.std.specs.List.Sorted.{IsPermutation}
 use Rattle.std.proofs.lemmas.Bool.{cases_eq}
@@ -17,7 +17,7 @@ use Rattle.clause_search.specs.Agendas.{Covers, GivesNone, HasGrown, IsIndexed, 
 use Rattle.clause_search.specs.Standings.{StandsAt}
 use Rattle.clause_search.proofs.LiteralLaws.{atom_front, false_has, has_atom, has_either, others_each, others_has, same_lit, settled_at, settled_each, true_not_false}
 use Rattle.clause_search.proofs.StandingLaws.{open_by_true, open_by_two}
-use Rattle.clause_search.proofs.TrailLaws.{get_either, same_some}
+use Rattle.clause_search.proofs.TrailLaws.{get_either, get_within, same_some}
 
 -- ---- lists that grow
 
@@ -124,11 +124,15 @@ same_or l m = elim (cases_eq l.atom m.atom) [
     by_sign a false true e f = inr (λ same. true_not_false (sym f ∙ sym (ap (λ (k : Lit). k.positive) same) ∙ e))
     by_sign a false false e f = inl (same_lit l m a (e ∙ sym f))
 
+by_place : (l x : Lit) (xs : List Lit) → (l ≡ x → ⊥) → (Has l xs → ⊥) → Has l (x ∷ xs) → ⊥
+by_place l x xs ne off (inl e) = ne e
+by_place l x xs ne off (inr h) = off h
+
 has_or : (l : Lit) (xs : List Lit) → Has l xs ⊎ (Has l xs → ⊥)
 has_or l [] = inr (λ h. h)
 has_or l (x ∷ xs) = elim (same_or l x) [
   | inl e ↦ inl (inl e)
-  | inr ne ↦ (elim (has_or l xs) [ inl h ↦ inl (inr h) | inr no ↦ inr (λ h. elim h [ inl e ↦ ne e | inr k ↦ no k ]) ])
+  | inr ne ↦ (elim (has_or l xs) [ inl h ↦ inl (inr h) | inr off ↦ inr (λ h. by_place l x xs ne off h) ])
 ]
 
 pub covers_told : (atoms : ℕ) (known : List (List Lit)) (lits : List Lit) (l : Lit) (lists : List (List ℕ)) (fresh fresh' : List ℕ) (units units' : List Waiting)
@@ -159,6 +163,19 @@ covers_learned known clause lits n fresh units settled last only k other is = el
   | inr at ↦ inl (subst (λ (f : List ℕ). Contains f k) (sym only) (subst (λ (j : ℕ). Contains (j ∷ []) k) (sym (last ∙ sym at.0)) (Contains-push [] k)))
 ]
 
+-- a clause is looked at next, too
+pub covers_entered : (known : List (List Lit)) (clause lits : List Lit) (n : ℕ) (fresh fresh' : List ℕ) (units units' : List Waiting)
+    → Covers known lits fresh units → n ≡ length known → fresh' ≡ fresh ++ n ∷ [] → units' ≡ units → Covers (known ++ clause ∷ []) lits fresh' units'
+covers_entered known clause lits n fresh fresh' units units' covers last more same k other is =
+    subst (λ (f : List ℕ). IsMinded lits f units' k other) (sym more) (subst (λ (u : List Waiting). IsMinded lits (fresh ++ n ∷ []) u k other) (sym same) (elim (get_either known clause k other is) [
+      | inl earlier ↦ by (covers k other earlier)
+      | inr at ↦ inl (subst (λ (j : ℕ). Contains (fresh ++ n ∷ []) j) (last ∙ sym at.0) (Contains-push fresh n))
+    ]))
+  where
+    by : IsMinded lits fresh units k other → IsMinded lits (fresh ++ n ∷ []) units k other
+    by (inl next) = inl (Contains-append_left fresh (n ∷ []) k next)
+    by (inr rest) = inr rest
+
 -- ---- a clause is looked at
 
 -- it is neither false nor unit
@@ -175,21 +192,25 @@ covers_dropped known lits fresh units n opens covers k clause is = by (covers k 
     by (inr rest) = inr rest
 
 -- it waits, and isn't false
-pub covers_kept : (known : List (List Lit)) (lits : List Lit) (fresh : List ℕ) (units units' : List Waiting) (w : Waiting)
-    → ((clause : List Lit) → slice_get known w.by ≡ Some clause → IsFalseOn lits clause → ⊥) → IsPermutation (w ∷ units) units'
-    → Covers known lits (fresh ++ w.by ∷ []) units → Covers known lits fresh units'
-covers_kept known lits fresh units units' w some moved covers k clause is = by (covers k clause is)
+pub covers_kept : (known : List (List Lit)) (lits : List Lit) (fresh : List ℕ) (units units' : List Waiting) (n : ℕ) (w : Waiting) → w.by ≡ n
+    → ((clause : List Lit) → slice_get known n ≡ Some clause → IsFalseOn lits clause → ⊥) → IsPermutation (w ∷ units) units'
+    → Covers known lits (fresh ++ n ∷ []) units → Covers known lits fresh units'
+covers_kept known lits fresh units units' n w number some moved covers k clause is = by (covers k clause is)
   where
     waits : Waits units k → Waits units' k
     waits (u, has, e) = (u, Contains-permutation (w ∷ units) units' u moved (Contains-append_right (w ∷ []) units u has), e)
 
-    by : IsMinded lits (fresh ++ w.by ∷ []) units k clause → IsMinded lits fresh units' k clause
-    by (inl next) = elim (Contains-push_cases fresh w.by k next) [
+    by : IsMinded lits (fresh ++ n ∷ []) units k clause → IsMinded lits fresh units' k clause
+    by (inl next) = elim (Contains-push_cases fresh n k next) [
       | inl h ↦ inl h
-      | inr e ↦ inr (inr ((w, Contains-permutation (w ∷ units) units' w moved (Contains-append_left (w ∷ []) units w (Contains-push [] w)), e), some clause (subst (λ (j : ℕ). slice_get known j ≡ Some clause) (sym e) is)))
+      | inr e ↦ inr (inr ((w, Contains-permutation (w ∷ units) units' w moved (Contains-append_left (w ∷ []) units w (Contains-push [] w)), number ∙ e), some clause (subst (λ (j : ℕ). slice_get known j ≡ Some clause) (sym e) is)))
     ]
     by (inr (inl opens)) = inr (inl opens)
     by (inr (inr (has, not_false))) = inr (inr (waits has, not_false))
+
+-- there is no such clause
+pub past : (known : List (List Lit)) (n : ℕ) (clause : List Lit) → length known ≤ n → slice_get known n ≡ Some clause → ⊥
+past known n clause most is = let less : n < length known = get_within known n clause is in absurd (omega arith)
 
 clause_at : (known : List (List Lit)) (n : ℕ) (x clause : List Lit) → slice_get known n ≡ Some x → slice_get known n ≡ Some clause → x ≡ clause
 clause_at known n x clause e f = same_some x clause (sym e ∙ f)
@@ -208,7 +229,7 @@ pub single_not_false : (known : List (List Lit)) (lits : List Lit) (n : ℕ) (l 
 single_not_false known lits n l clause at is f =
     at.stands.1 (has_atom (negation l) lits (false_has lits at.clause l (subst (λ (ls : List Lit). IsFalseOn lits ls) (sym (clause_at known n at.clause clause at.is is)) f) at.stands.0))
 
-false_gives_none : (known : List (List Lit)) (lits : List Lit) (n : ℕ) → StandsAt known lits n False → GivesNone known lits n
+pub false_gives_none : (known : List (List Lit)) (lits : List Lit) (n : ℕ) → StandsAt known lits n False → GivesNone known lits n
 false_gives_none known lits n at clause is l has off others =
     off (has_atom (negation l) lits (false_has lits at.clause l at.stands (subst (λ (ls : List Lit). Has l ls) (sym (clause_at known n at.clause clause at.is is)) has)))
 
@@ -218,32 +239,36 @@ same_top : {X : Type 0} (xs ys : List X) (x y : X) → IsPermutation xs (y ∷ y
 same_top [] ys x y moved e f = absurd (let size : length (y ∷ ys) ≡ 0 = length_permutation [] (y ∷ ys) moved in omega arith)
 same_top (z ∷ xs) ys x y moved e f = e ∙ sym f
 
--- the first of those that wait is taken away
-pub covers_popped : (known : List (List Lit)) (lits : List Lit) (units units' : List Waiting) (first top : Waiting) → GivesNone known lits first.by
-    → first ≡ get_or units 0 first → top ≡ get_or units 0 top → IsPermutation units (top ∷ units') → Covers known lits [] units
-    → Covers known lits [] units'
-covers_popped known lits units units' first top none e f moved covers k clause is = by (covers k clause is)
-  where
-    by_number : (w : Waiting) → w.by ≡ k → Contains units' w ⊎ (top ≡ w) → (IsFalseOn lits clause → ⊥) → IsMinded lits [] units' k clause
-    by_number w at (inl still) some = inr (inr ((w, still, at), some))
-    by_number w at (inr is_top) some = inr (inl (record {
-      not_false = some;
-      not_unit = none clause (subst (λ (j : ℕ). slice_get known j ≡ Some clause) (sym (ap (λ (u : Waiting). u.by) (same_top units units' first top moved e f ∙ is_top) ∙ at)) is);
-    }))
+first_or_other : {X : Type 0} (xs : List X) (x y : X) → Contains (x ∷ xs) y → Contains xs y ⊎ (y ≡ x)
+first_or_other xs x y (zero, less, e) = inr (sym e)
+first_or_other xs x y (suc k, less, e) = inl (k, (let less : suc k < suc (length xs) = less in omega arith), e)
 
-    among : (w : Waiting) → Contains (top ∷ units') w → Contains units' w ⊎ (top ≡ w)
-    among w (zero, less, e) = inr e
-    among w (suc j, less, e) = inl (j, (let less : suc j < suc (length units') = less in omega arith), e)
+-- the first of those that wait is taken away
+pub covers_popped : (known : List (List Lit)) (lits : List Lit) (units units' : List Waiting) (first : Waiting) (popped : Option Waiting) (n : ℕ)
+    → GivesNone known lits first.by → first ≡ get_or units 0 first → 0 < n → IsSome popped ↔ (0 < n) → IfSome popped (λ w. w ≡ get_or units 0 w)
+    → IfSome popped (λ w. IsPermutation units (w ∷ units')) → Covers known lits [] units → Covers known lits [] units'
+covers_popped known lits units units' first None n none e some variant f moved covers k clause is = absurd (true_not_false (sym (variant.1 some)))
+covers_popped known lits units units' first (Some top) n none e some variant f moved covers k clause is = by (covers k clause is)
+  where
+    number : top ≡ first
+    number = sym (same_top units units' first top moved e f)
+
+    still : (w : Waiting) → w.by ≡ k → Contains units' w ⊎ (w ≡ top) → (IsFalseOn lits clause → ⊥) → IsMinded lits [] units' k clause
+    still w at (inl has) not_false = inr (inr ((w, has, at), not_false))
+    still w at (inr is_top) not_false = inr (inl (record {
+      not_false = not_false;
+      not_unit = none clause (subst (λ (j : ℕ). slice_get known j ≡ Some clause) (sym at ∙ ap (λ (u : Waiting). u.by) (is_top ∙ number)) is);
+    }))
 
     by : IsMinded lits [] units k clause → IsMinded lits [] units' k clause
     by (inl next) = absurd (none_there k next)
     by (inr (inl opens)) = inr (inl opens)
-    by (inr (inr ((w, has, at), some))) = by_number w at (among w (Contains-permutation units (top ∷ units') w moved has)) some
+    by (inr (inr ((w, has, at), not_false))) = still w at (first_or_other units' top w (Contains-permutation units (top ∷ units') w moved has)) not_false
 
 -- where none waits, nothing is left to look at
-pub settled_of : (known : List (List Lit)) (lits : List Lit) (units : List Waiting) → units ≡ [] → Covers known lits [] units → IsSettled known lits
-settled_of known lits units empty covers =
-    settled_each known lits (λ k clause is. by k clause (subst (λ (u : List Waiting). IsMinded lits [] u k clause) empty (covers k clause is)))
+pub settled_of : (known : List (List Lit)) (lits : List Lit) (units : List Waiting) → length units ≤ 0 → Covers known lits [] units → IsSettled known lits
+settled_of known lits (w ∷ units) empty covers = absurd (omega arith)
+settled_of known lits [] empty covers = settled_each known lits (λ k clause is. by k clause (covers k clause is))
   where
     by : (k : ℕ) (clause : List Lit) → IsMinded lits [] [] k clause → IsOpenClause lits clause
     by k clause (inl next) = absurd (none_there k next)

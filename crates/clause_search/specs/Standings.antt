@@ -1,5 +1,5 @@
 -- How a clause stands to the literals of a trail, and what a search wants of the clauses.
-use Rattle.std.specs.Prelude.{◌≡◌, ℕ, ◌<◌, List, length, Option, None, Some, slice_get}
+use Rattle.std.specs.Prelude.{◌≡◌, ℕ, ◌<◌, ◌≤◌, List, length, Option, None, Some, slice_get}
 use Rattle.farkas_cert.specs.declared.literals.Lit.{Lit}
 use Rattle.clause_form.specs.Derivations.{Has, HasAtom, IsFalseOn}
 use Rattle.clause_form.specs.Journals.{IsReason, OthersFalse}
@@ -26,8 +26,9 @@ pub record StandsAt (known : List (List Lit)) (lits : List Lit) (n : ℕ) (stand
   pub is : slice_get known n ≡ Some clause
   pub stands : StandsAs lits clause standing
 
+-- there is one
 abbrev pub IfStandsAt : List (List Lit) → List Lit → ℕ → Option Standing → Type 0
-IfStandsAt known lits n None = Unit {0}
+IfStandsAt known lits n None = length known ≤ n
 IfStandsAt known lits n (Some standing) = StandsAt known lits n standing
 
 -- each clause before this number has a true literal

@@ -222,7 +222,9 @@ fn standing_if(clauses: &Clauses, lemmas: &[Lemma], trail: &Trail, number: u32) 
 }
 
 // Where a clause that gives this literal stands among those that wait.
-fn turn_of(clauses: &Clauses, at_root: bool, lit: Lit, by: u32) -> Waiting {
+fn turn_of(clauses: &Clauses, at_root: bool, lit: Lit, by: u32) -> Waiting
+    ensures { result.by ≡ by }
+{
     if at_root {
         Waiting {
             is_requirement: by as usize + 1 == clauses.clauses.len(),

@@ -13,8 +13,10 @@ assume-heard-requires g c =
     may_be_told g.T.Theory.relations c.args.clauses.now c.requires.deciding.0 c.args.course.now.trail c.args.course.now.lemmas c.args.course.now.journal.moves (g.T.Theory.seen c.args.theory.now) (counts c.args.budget.now) c.in-Some.lit None c.args.budget.now.within (may_decide g.T.Theory.relations c.args.clauses.now c.requires.deciding.0 c.args.course.now (g.T.Theory.seen c.args.theory.now) (counts c.args.budget.now) c.args.wish c.in-Some.lit c.requires.deciding.1 c.in-Some.ensures)
 
 pub after-requires : goal.after-requires
-after-requires g c =
-    (c.requires.deciding.0, c.assume-heard.ensures.asks c.args.clauses.now c.requires.deciding.0 (may_decide g.T.Theory.relations c.args.clauses.now c.requires.deciding.0 c.args.course.now (g.T.Theory.seen c.args.theory.now) (counts c.args.budget.now) c.args.wish c.in-Some.lit c.requires.deciding.1 c.in-Some.ensures))
+after-requires g c = record {
+  minds = c.assume-heard.ensures.minds c.args.clauses.now c.requires.minds;
+  asks = (c.requires.deciding.0, c.assume-heard.ensures.asks c.args.clauses.now c.requires.deciding.0 (may_decide g.T.Theory.relations c.args.clauses.now c.requires.deciding.0 c.args.course.now (g.T.Theory.seen c.args.theory.now) (counts c.args.budget.now) c.args.wish c.in-Some.lit c.requires.deciding.1 c.in-Some.ensures));
+}
 
 pub returns-in-Some-clause-steps : goal.returns-in-Some-clause-steps
 returns-in-Some-clause-steps g c s deciding =

@@ -16,3 +16,9 @@ returns-in-Ok-Some-clause-turns g c s at =
 pub returns-in-Told-clause-turns : goal.returns-in-Told-clause-turns
 returns-in-Told-clause-turns g c s at =
     c.after.ensures.steps s (work_left c.args.course.now (counts c.args.budget.now)) (c.check-heard.ensures.asks c.args.clauses.now s at) c.check-heard.ensures.less
+
+pub after-requires-clause-minds : goal.after-requires-clause-minds
+after-requires-clause-minds g c = ?
+
+pub advance-requires : goal.advance-requires
+advance-requires g c = ?
