@@ -1,5 +1,5 @@
 -- A search's agenda and cursor at its beginning, after a literal is told, and after a cut.
-use Rattle.std.proofs.Common.{◌≡◌, ℕ, ◌<◌, List, [], ◌∷◌, ◌++◌, length, take, Option, refl, sym, ◌∙◌, ap, subst}
+use Rattle.std.proofs.Common.{◌≡◌, ℕ, ◌<◌, List, [], ◌∷◌, ◌++◌, length, take, Option, None, Some, IfNone, refl, sym, ◌∙◌, ap, subst}
 use Rattle.std.specs.BinaryHeap.{heap_items}
 use Rattle.std.proofs.lemmas.List.{append-nil, length-map}
 use Rattle.whole.specs.Budget.{Counts}
@@ -8,6 +8,7 @@ use Rattle.farkas_cert.specs.declared.literals.Lit.{Lit}
 use Rattle.clause_form.specs.declared.clauses.Clauses.{Clauses}
 use Rattle.clause_form.specs.declared.theory.Heard.{Heard}
 use Rattle.clause_form.specs.declared.theory.Heard.TheVariants as heard
+use Rattle.clause_form.specs.Derivations.{NamesOnce}
 use Rattle.clause_form.specs.Journals.{Entry, literals}
 use Rattle.clause_form.specs.Theories.{Relations, TheoryView}
 use Rattle.learned_clause.specs.Trails.{known_with}
@@ -27,7 +28,7 @@ use Rattle.clause_search.proofs.CursorLaws.{marked_cut, marked_none, marked_told
 use Rattle.clause_search.proofs.TrailLaws.{known_more, lits_more, lits_take}
 
 -- what holds of a course's parts
-abbrev ReadyAt : Clauses → View → List Lemma → List (List ℕ) → Cursor → List ℕ → List Waiting → Type 0
+abbrev pub ReadyAt : Clauses → View → List Lemma → List (List ℕ) → Cursor → List ℕ → List Waiting → Type 0
 ReadyAt c view lemmas lists cursor fresh units =
     IsKept view.atoms (known_with c.clauses lemmas) (literals view.entries) lists cursor × Covers (known_with c.clauses lemmas) (literals view.entries) fresh units
 
@@ -88,6 +89,22 @@ minds_heard c course (heard.Clash parts) minds = minds.0
 minds_heard c course heard.Spent minds = tt
 minds_heard c course (heard.Stuck stuck) minds = tt
 minds_heard c course heard.NoMemory minds = tt
+
+-- the fresh clauses were looked at, and none is false
+pub minds_looked : (c : Clauses) (course : Course) (agenda : Agenda) (ls : List Lemma) (found : Option ℕ) (atoms : ℕ) → ls ≡ course.lemmas
+    → agenda.occurrences ≡ course.agenda.occurrences → found ≡ None → NamesOnce atoms (literals course.trail.entries)
+    → ((n : ℕ) → NamesOnce n (literals course.trail.entries) → Covers (known_with c.clauses ls) (literals course.trail.entries) course.agenda.fresh.items (heap_items course.agenda.units)
+    → IfNone found (Covers (known_with c.clauses ls) (literals course.trail.entries) agenda.fresh.items (heap_items agenda.units)))
+    → Minds c course → ReadyAt c course.trail course.lemmas agenda.occurrences.lists.items course.cursor agenda.fresh.items (heap_items agenda.units)
+minds_looked c course agenda ls (Some number) atoms same occurrences none once covers minds = absurd (cc)
+minds_looked c course agenda ls None atoms same occurrences none once covers (kept, before) = (
+  record {
+    indexed = subst (λ (o : Occurrences). IsIndexed course.trail.atoms (known_with c.clauses course.lemmas) o.lists.items) (sym occurrences) kept.indexed;
+    marked = kept.marked;
+  },
+  subst (λ (ms : List Lemma). Covers (known_with c.clauses ms) (literals course.trail.entries) agenda.fresh.items (heap_items agenda.units)) same (
+      covers atoms once (subst (λ (ms : List Lemma). Covers (known_with c.clauses ms) (literals course.trail.entries) course.agenda.fresh.items (heap_items course.agenda.units)) (sym same) before)),
+)
 
 -- ---- the trail is cut
 
