@@ -21,9 +21,6 @@ use Rattle.clause_search.proofs.TrailLaws.{get_either, get_within, same_some}
 
 -- ---- lists that grow
 
-pub grown_none : (lists : List (List ℕ)) → HasGrown lists lists
-grown_none lists = record { count = refl; kept = λ place n has. has }
-
 pub grown_more : (a b c : List (List ℕ)) → HasGrown a b → HasGrown b c → HasGrown a c
 grown_more a b c first second = record {
   count = second.count ∙ first.count;

@@ -65,15 +65,3 @@ marked_cut known more lits keep old new short is back = record {
   where
     within : keep < length old.marks.items
     within = subst (λ (n : ℕ). keep < n) (sym is.count) short
-
--- the clause at the cursor has a true literal
-pub marked_on : (known : List (List Lit)) (lits : List Lit) (old new : Cursor) → IsMarked known lits old → StandsAt known lits old.next Satisfied
-    → new.next ≡ old.next + 1 → new.marks ≡ old.marks → IsMarked known lits new
-marked_on known lits old new is at next same = record {
-  here = subst (λ (n : ℕ). AreTrueBelow known lits n) (sym next) (below_more (λ k. StandsAt known lits k Satisfied) old.next is.here at);
-  count = ap (λ m. length m.items) same ∙ is.count;
-  before = λ k mark e. is.before k mark (ap (λ m. slice_get m.items k) (sym same) ∙ e);
-}
-
-pub true_upto : (known : List (List Lit)) (lits : List Lit) (m n : ℕ) → n ≤ m → AreTrueBelow known lits m → AreTrueBelow known lits n
-true_upto known lits m n most below k less = below k (omega arith)
