@@ -63,7 +63,7 @@ impl Cursor {
             match standing_of(clauses, lemmas, trail, self.next) {
                 Standing::Satisfied => self.next += 1,
                 Standing::Open(lit) => return Some(lit),
-                Standing::Unit(lit) => return Some(lit),
+                Standing::Unit(_) => unreachable!(),
                 Standing::False => unreachable!(),
             }
         }

@@ -1,7 +1,7 @@
 // How a clause stands to a trail.
-ghost use Rattle.std.specs.Prelude.{◌≡◌, ◌<◌, ◌^◌, List, [], ◌∷◌, ◌++◌, length};
+ghost use Rattle.std.specs.Prelude.{◌≡◌, ℕ, ◌<◌, ◌^◌, List, [], ◌∷◌, ◌++◌, length};
 ghost use Rattle.farkas_cert.specs.declared.literals.Lit.{Lit};
-ghost use Rattle.clause_form.specs.Derivations.{HasAtom};
+ghost use Rattle.clause_form.specs.Derivations.{HasAtom, NamesOnce};
 ghost use Rattle.clause_form.specs.Journals.{literals};
 ghost use Rattle.learned_clause.specs.Trails.{known_with};
 ghost use Rattle.clause_search.specs.Standings.{StandsAs, StandsAt};
@@ -72,7 +72,7 @@ fn with_literal(trail: &Trail, before: Standing, lit: Lit) -> Standing
 
 // So where the literal is off the trail.
 fn with_free(before: Standing, lit: Lit) -> Standing
-    ensures { (lits front : List Lit) → (HasAtom lit.atom lits → ⊥) → StandsAs lits front before → StandsAs lits (front ++ lit ∷ []) result }
+    ensures { (n : ℕ) (lits front : List Lit) → NamesOnce n lits → (HasAtom lit.atom lits → ⊥) → StandsAs lits front before → StandsAs lits (front ++ lit ∷ []) result }
 {
     match before {
         Standing::False => Standing::Unit(lit),

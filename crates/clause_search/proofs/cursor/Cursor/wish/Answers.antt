@@ -7,6 +7,12 @@ use Rattle.clause_search.proofs.cursor.Cursor.wish.Goals as goal
 
 pub unreachable-requires : goal.unreachable-requires
 unreachable-requires c =
-    let known : List (List Lit) = known_with c.args.clauses.now.clauses c.args.lemmas.now in
-    let lits : List Lit = literals c.args.trail.now.entries in
-    (settled_at known lits c.loop-self.self.next c.in-False.ensures.clause c.requires.settled c.in-False.ensures.is).not_false c.in-False.ensures.stands
+    let at = c.in-Unit.ensures in
+    let opens = settled_at (known_with c.args.clauses.now.clauses c.args.lemmas.now) (literals c.args.trail.now.entries) c.loop-self.self.next at.clause c.requires.settled at.is in
+    opens.not_unit c.in-Unit.field-0 at.stands.0 at.stands.1 at.stands.2
+
+pub unreachable-requires-in-False : goal.unreachable-requires-in-False
+unreachable-requires-in-False c =
+    let at = c.in-False.ensures in
+    let opens = settled_at (known_with c.args.clauses.now.clauses c.args.lemmas.now) (literals c.args.trail.now.entries) c.loop-self.self.next at.clause c.requires.settled at.is in
+    opens.not_false at.stands
