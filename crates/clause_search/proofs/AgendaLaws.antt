@@ -1,5 +1,5 @@
 -- What an agenda covers: where the trail grows, where it is cut, and where nothing is left to look at.
-use Rattle.std.proofs.Common.{◌≡◌, ℕ, zero, suc, ◌+◌, ◌*◌, ◌<◌, ◌≤◌, Bool, true, false, not, ◌⊎◌, inl, inr, List, [], ◌∷◌, ◌++◌, length, get_or, set, Option, None, Some, IsSome, IfSome, ◌↔◌, slice_get, refl, sym, ◌∙◌, ap, subst, length-append, arith, if◌then◌else◌, get_or-set_same, get_or-set_other}
+use Rattle.std.proofs.Common.{◌≡◌, ℕ, zero, suc, ◌+◌, ◌*◌, ◌<◌, ◌≤◌, Bool, true, false, not, ◌⊎◌, inl, inr, List, [], ◌∷◌, ◌++◌, length, get_or, set, Option, None, Some, IsSome, IfSome, ◌↔◌, slice_get, refl, sym, ◌∙◌, ap, subst, arith, if◌then◌else◌, get_or-set_same, get_or-set_other}
 use Rattle.std.specs.List.{Contains}
 use Rattle.std.specs.List.Sorted.{IsPermutation}
 use Rattle.std.proofs.lemmas.Bool.{cases_eq}
@@ -8,12 +8,11 @@ use Rattle.std.proofs.lemmas.List.Sorted.{Contains-permutation, length_permutati
 use Rattle.std.proofs.lemmas.List.Elements.{Contains-append_left, Contains-append_right, Contains-push, Contains-push_cases}
 use Rattle.farkas_cert.specs.Literals.{negation}
 use Rattle.farkas_cert.specs.declared.literals.Lit.{Lit}
-use Rattle.clause_form.specs.Derivations.{Has, HasAtom, IsFalseOn, NamesOnce}
-use Rattle.clause_form.specs.Journals.{IsOpenClause, IsSettled, OthersFalse}
-use Rattle.clause_search.specs.declared.agenda.Agenda.{Agenda}
+use Rattle.clause_form.specs.Derivations.{Has, IsFalseOn, NamesOnce}
+use Rattle.clause_form.specs.Journals.{IsOpenClause, IsSettled}
 use Rattle.clause_search.specs.declared.agenda.Waiting.{Waiting}
 use Rattle.clause_search.specs.declared.standing.Standing.TheVariants.{Satisfied, Open, Unit as Single, False}
-use Rattle.clause_search.specs.Agendas.{Covers, GivesNone, HasGrown, IsIndexed, IsListed, IsMinded, Rouses, Waits, list_of, place_of}
+use Rattle.clause_search.specs.Agendas.{Covers, GivesNone, HasGrown, IsIndexed, IsListed, IsMinded, Waits, list_of, place_of}
 use Rattle.clause_search.specs.Standings.{StandsAt}
 use Rattle.clause_search.proofs.LiteralLaws.{atom_front, false_has, has_atom, has_either, others_each, others_has, same_lit, settled_at, settled_each, true_not_false}
 use Rattle.clause_search.proofs.StandingLaws.{open_by_true, open_by_two}

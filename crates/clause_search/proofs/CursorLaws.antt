@@ -1,12 +1,11 @@
 -- The clauses before a cursor have a true literal: where the trail grows, where it is cut, and where the cursor goes on.
-use Rattle.std.proofs.Common.{◌≡◌, ℕ, ◌+◌, ◌<◌, ◌≤◌, inl, inr, List, [], ◌∷◌, ◌++◌, length, take, get_or, below_more, Some, slice_get, refl, sym, ◌∙◌, ap, subst, length-append, arith}
+use Rattle.std.proofs.Common.{◌≡◌, ℕ, ◌+◌, ◌<◌, inl, inr, List, [], ◌∷◌, ◌++◌, length, take, get_or, Some, slice_get, sym, ◌∙◌, ap, subst, length-append, arith}
 use Rattle.std.proofs.lemmas.List.{take-append-le}
 use Rattle.std.proofs.lemmas.Option.{slice_get-get_or}
 use Rattle.farkas_cert.specs.declared.literals.Lit.{Lit}
 use Rattle.clause_search.specs.declared.cursor.Cursor.{Cursor}
-use Rattle.clause_search.specs.declared.standing.Standing.TheVariants.{Satisfied}
 use Rattle.clause_search.specs.Cursors.{IsMarked, Marks, SetsBack}
-use Rattle.clause_search.specs.Standings.{AreTrueBelow, StandsAt}
+use Rattle.clause_search.specs.Standings.{AreTrueBelow}
 use Rattle.clause_search.proofs.LiteralLaws.{has_front}
 use Rattle.clause_search.proofs.TableLaws.{take_less}
 use Rattle.clause_search.proofs.TrailLaws.{get_either, get_front, get_take, get_within, length_take, take_all}

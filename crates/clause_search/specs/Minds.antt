@@ -1,5 +1,5 @@
 -- What holds of a search's agenda and cursor at each step.
-use Rattle.std.specs.Prelude.{◌≡◌, ℕ, List}
+use Rattle.std.specs.Prelude.{ℕ, List}
 use Rattle.std.specs.BinaryHeap.{heap_items}
 use Rattle.farkas_cert.specs.declared.literals.Lit.{Lit}
 use Rattle.clause_form.specs.declared.clauses.Clauses.{Clauses}

@@ -1,4 +1,4 @@
-use Rattle.std.proofs.Common.{◌≤◌, List, Option, length, subst}
+use Rattle.std.proofs.Common.{List, Option, subst}
 use Rattle.farkas_cert.specs.declared.literals.Lit.{Lit}
 use Rattle.clause_form.specs.Journals.{literals}
 use Rattle.learned_clause.specs.Trails.{known_with}

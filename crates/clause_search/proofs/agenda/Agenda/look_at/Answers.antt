@@ -1,10 +1,9 @@
-use Rattle.std.proofs.Common.{◌≡◌, ℕ, ◌<◌, ◌≤◌, List, [], ◌∷◌, ◌++◌, Option, Some, length, slice_get, sym, subst}
+use Rattle.std.proofs.Common.{List, Option, subst}
 use Rattle.std.specs.BinaryHeap.{heap_items}
 use Rattle.farkas_cert.specs.declared.literals.Lit.{Lit}
 use Rattle.clause_form.specs.Journals.{literals}
 use Rattle.learned_clause.specs.Trails.{known_with}
 use Rattle.clause_search.specs.declared.standing.Standing.{Standing}
-use Rattle.clause_search.specs.Agendas.{Covers}
 use Rattle.clause_search.specs.Standings.{IfStandsAt, StandsAt}
 use Rattle.clause_search.proofs.AgendaLaws.{covers_dropped, covers_kept, opens_true, opens_two, past, single_not_false}
 use Rattle.clause_search.proofs.agenda.Agenda.look_at.Goals as goal

@@ -1,4 +1,4 @@
-use Rattle.std.proofs.Common.{◌≡◌, ℕ, ◌*◌, [], length, take}
+use Rattle.std.proofs.Common.{[], length, take}
 use Rattle.std.specs.BinaryHeap.{heap_items}
 use Rattle.clause_search.specs.Agendas.{Covers, IsIndexed}
 use Rattle.clause_search.proofs.agenda.Agenda.new.Given as goal

@@ -1,5 +1,3 @@
-use Rattle.std.proofs.Common.{List}
-use Rattle.farkas_cert.specs.declared.literals.Lit.{Lit}
 use Rattle.clause_form.specs.Journals.{literals}
 use Rattle.learned_clause.specs.Trails.{known_with}
 use Rattle.clause_search.proofs.LiteralLaws.{settled_at}

@@ -1,4 +1,4 @@
-use Rattle.std.proofs.Common.{ℕ, ◌-◌, length}
+use Rattle.std.proofs.Common.{◌-◌, length}
 use Rattle.clause_form.specs.Journals.{literals}
 use Rattle.learned_clause.specs.Trails.{known_with}
 use Rattle.clause_search.specs.Cursors.{IsMarked}
