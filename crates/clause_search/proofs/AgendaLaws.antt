@@ -12,7 +12,7 @@ use Rattle.clause_form.specs.Derivations.{Has, IsFalseOn, NamesOnce}
 use Rattle.clause_form.specs.Journals.{IsOpenClause, IsSettled}
 use Rattle.clause_search.specs.declared.agenda.Waiting.{Waiting}
 use Rattle.clause_search.specs.declared.standing.Standing.TheVariants.{Satisfied, Open, Unit as Single, False}
-use Rattle.clause_search.specs.Agendas.{Covers, GivesNone, HasGrown, IsIndexed, IsListed, IsMinded, Waits, list_of, place_of}
+use Rattle.clause_search.specs.Agendas.{Covers, GivesNone, HasGrown, IsIndexed, IsListed, IsCovered, Waits, list_of, place_of}
 use Rattle.clause_search.specs.Standings.{StandsAt}
 use Rattle.clause_search.proofs.LiteralLaws.{atom_front, false_has, has_atom, has_either, others_each, others_has, same_lit, settled_at, settled_each, true_not_false}
 use Rattle.clause_search.proofs.StandingLaws.{open_by_true, open_by_two}
@@ -135,14 +135,14 @@ pub covers_told : (atoms : ℕ) (known : List (List Lit)) (lits : List Lit) (l :
     → l.atom < atoms → IsIndexed atoms known lists → Covers known lits fresh units → fresh' ≡ fresh ++ list_of lists (negation l) → units' ≡ units
     → Covers known (lits ++ l ∷ []) fresh' units'
 covers_told atoms known lits l lists fresh fresh' units units' less indexed covers more same n clause is =
-    subst (λ (f : List ℕ). IsMinded (lits ++ l ∷ []) f units' n clause) (sym more) (subst (λ (u : List Waiting). IsMinded (lits ++ l ∷ []) (fresh ++ list_of lists (negation l)) u n clause) (sym same) (by (has_or (negation l) clause) (covers n clause is)))
+    subst (λ (f : List ℕ). IsCovered (lits ++ l ∷ []) f units' n clause) (sym more) (subst (λ (u : List Waiting). IsCovered (lits ++ l ∷ []) (fresh ++ list_of lists (negation l)) u n clause) (sym same) (by (has_or (negation l) clause) (covers n clause is)))
   where
     inside : place_of (negation l) < length lists
     inside = subst (λ (k : ℕ). place_of (negation l) < k) (sym indexed.count) (place_within l.atom atoms (not l.positive) less)
 
-    by : Has (negation l) clause ⊎ (Has (negation l) clause → ⊥) → IsMinded lits fresh units n clause
-        → IsMinded (lits ++ l ∷ []) (fresh ++ list_of lists (negation l)) units n clause
-    by (inl has) minded = inl (Contains-append_right fresh (list_of lists (negation l)) n (indexed.listed n clause is (negation l) has inside))
+    by : Has (negation l) clause ⊎ (Has (negation l) clause → ⊥) → IsCovered lits fresh units n clause
+        → IsCovered (lits ++ l ∷ []) (fresh ++ list_of lists (negation l)) units n clause
+    by (inl has) covered = inl (Contains-append_right fresh (list_of lists (negation l)) n (indexed.listed n clause is (negation l) has inside))
     by (inr free) (inl next) = inl (Contains-append_left fresh (list_of lists (negation l)) n next)
     by (inr free) (inr (inl opens)) = inr (inl (open_kept lits clause l free opens))
     by (inr free) (inr (inr (waits, some))) = inr (inr (waits, not_false_kept lits clause l free some))
@@ -163,12 +163,12 @@ covers_learned known clause lits n fresh units settled last only k other is = el
 pub covers_entered : (known : List (List Lit)) (clause lits : List Lit) (n : ℕ) (fresh fresh' : List ℕ) (units units' : List Waiting)
     → Covers known lits fresh units → n ≡ length known → fresh' ≡ fresh ++ n ∷ [] → units' ≡ units → Covers (known ++ clause ∷ []) lits fresh' units'
 covers_entered known clause lits n fresh fresh' units units' covers last more same k other is =
-    subst (λ (f : List ℕ). IsMinded lits f units' k other) (sym more) (subst (λ (u : List Waiting). IsMinded lits (fresh ++ n ∷ []) u k other) (sym same) (elim (get_either known clause k other is) [
+    subst (λ (f : List ℕ). IsCovered lits f units' k other) (sym more) (subst (λ (u : List Waiting). IsCovered lits (fresh ++ n ∷ []) u k other) (sym same) (elim (get_either known clause k other is) [
       | inl earlier ↦ by (covers k other earlier)
       | inr at ↦ inl (subst (λ (j : ℕ). Contains (fresh ++ n ∷ []) j) (last ∙ sym at.0) (Contains-push fresh n))
     ]))
   where
-    by : IsMinded lits fresh units k other → IsMinded lits (fresh ++ n ∷ []) units k other
+    by : IsCovered lits fresh units k other → IsCovered lits (fresh ++ n ∷ []) units k other
     by (inl next) = inl (Contains-append_left fresh (n ∷ []) k next)
     by (inr rest) = inr rest
 
@@ -180,7 +180,7 @@ pub covers_dropped : (known : List (List Lit)) (lits : List Lit) (fresh : List �
     → Covers known lits fresh units
 covers_dropped known lits fresh units n opens covers k clause is = by (covers k clause is)
   where
-    by : IsMinded lits (fresh ++ n ∷ []) units k clause → IsMinded lits fresh units k clause
+    by : IsCovered lits (fresh ++ n ∷ []) units k clause → IsCovered lits fresh units k clause
     by (inl next) = elim (Contains-push_cases fresh n k next) [
       | inl h ↦ inl h
       | inr e ↦ inr (inl (opens clause (subst (λ (j : ℕ). slice_get known j ≡ Some clause) (sym e) is)))
@@ -196,7 +196,7 @@ covers_kept known lits fresh units units' n w number some moved covers k clause 
     waits : Waits units k → Waits units' k
     waits (u, has, e) = (u, Contains-permutation (w ∷ units) units' u moved (Contains-append_right (w ∷ []) units u has), e)
 
-    by : IsMinded lits (fresh ++ n ∷ []) units k clause → IsMinded lits fresh units' k clause
+    by : IsCovered lits (fresh ++ n ∷ []) units k clause → IsCovered lits fresh units' k clause
     by (inl next) = elim (Contains-push_cases fresh n k next) [
       | inl h ↦ inl h
       | inr e ↦ inr (inr ((w, Contains-permutation (w ∷ units) units' w moved (Contains-append_left (w ∷ []) units w (Contains-push [] w)), number ∙ e), some clause (subst (λ (j : ℕ). slice_get known j ≡ Some clause) (sym e) is)))
@@ -249,14 +249,14 @@ covers_popped known lits units units' first (Some top) n none e some variant f m
     number : top ≡ first
     number = sym (same_top units units' first top moved e f)
 
-    still : (w : Waiting) → w.by ≡ k → Contains units' w ⊎ (w ≡ top) → (IsFalseOn lits clause → ⊥) → IsMinded lits [] units' k clause
+    still : (w : Waiting) → w.by ≡ k → Contains units' w ⊎ (w ≡ top) → (IsFalseOn lits clause → ⊥) → IsCovered lits [] units' k clause
     still w at (inl has) not_false = inr (inr ((w, has, at), not_false))
     still w at (inr is_top) not_false = inr (inl (record {
       not_false = not_false;
       not_unit = none clause (subst (λ (j : ℕ). slice_get known j ≡ Some clause) (sym at ∙ ap (λ (u : Waiting). u.by) (is_top ∙ number)) is);
     }))
 
-    by : IsMinded lits [] units k clause → IsMinded lits [] units' k clause
+    by : IsCovered lits [] units k clause → IsCovered lits [] units' k clause
     by (inl next) = absurd (none_there k next)
     by (inr (inl opens)) = inr (inl opens)
     by (inr (inr ((w, has, at), not_false))) = still w at (first_or_other units' top w (Contains-permutation units (top ∷ units') w moved has)) not_false
@@ -266,7 +266,7 @@ pub settled_of : (known : List (List Lit)) (lits : List Lit) (units : List Waiti
 settled_of known lits (w ∷ units) empty covers = absurd (omega arith)
 settled_of known lits [] empty covers = settled_each known lits (λ k clause is. by k clause (covers k clause is))
   where
-    by : (k : ℕ) (clause : List Lit) → IsMinded lits [] [] k clause → IsOpenClause lits clause
+    by : (k : ℕ) (clause : List Lit) → IsCovered lits [] [] k clause → IsOpenClause lits clause
     by k clause (inl next) = absurd (none_there k next)
     by k clause (inr (inl opens)) = opens
     by k clause (inr (inr ((w, has, at), some))) = absurd (none_there w has)

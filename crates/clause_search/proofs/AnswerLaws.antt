@@ -187,12 +187,6 @@ found_until R c may stop seen n (until.Found answer) is = is
 
 -- ---- totals
 
-opposite_truth : (a b : Bool) → (a ≡ b → ⊥) → a ≡ not b
-opposite_truth true true ne = absurd (ne refl)
-opposite_truth true false ne = refl
-opposite_truth false true ne = refl
-opposite_truth false false ne = absurd (ne refl)
-
 same_truth : (a b : Bool) → (a ≡ b) ⊎ (a ≡ not b)
 same_truth true true = inl refl
 same_truth true false = inr refl

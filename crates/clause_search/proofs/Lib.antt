@@ -9,6 +9,6 @@ pub mod CourseLaws
 pub mod SolutionLaws
 pub mod StartLaws
 pub mod ConflictLaws
-pub mod MindLaws
+pub mod UpkeepLaws
 pub mod AnswerLaws
 pub mod ExampleLaws

@@ -150,12 +150,6 @@ take_less (e ∷ es) zero (suc n) h = refl
 take_less (e ∷ es) (suc keep) zero h = absurd (omega arith)
 take_less {T} (e ∷ es) (suc keep) (suc n) h = ap (λ (xs : List T). e ∷ xs) (take_less es keep n (omega arith))
 
-pub take_whole : (es : List Entry) (keep : ℕ) → length es ≤ keep → take keep es ≡ es
-take_whole [] zero h = refl
-take_whole [] (suc keep) h = refl
-take_whole (e ∷ es) zero h = absurd (omega arith)
-take_whole (e ∷ es) (suc keep) h = ap (λ (xs : List Entry). e ∷ xs) (take_whole es keep (omega arith))
-
 -- ---- a truth of each atom
 
 truth_at : (truths : List (Option Bool)) (atom : ℕ) → truth_in (map is_true_at truths) atom ≡ is_true_at (get_or truths atom None)

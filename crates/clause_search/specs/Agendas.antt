@@ -38,12 +38,12 @@ abbrev pub Waits : List Waiting → ℕ → Type 0
 Waits units n = (w : Waiting) × Contains units w × (w.by ≡ n)
 
 -- it is looked at next, or it is neither false nor unit, or it waits and isn't false
-abbrev pub IsMinded : List Lit → List ℕ → List Waiting → ℕ → List Lit → Type 0
-IsMinded lits fresh units n clause = Contains fresh n ⊎ (IsOpenClause lits clause ⊎ (Waits units n × (IsFalseOn lits clause → ⊥)))
+abbrev pub IsCovered : List Lit → List ℕ → List Waiting → ℕ → List Lit → Type 0
+IsCovered lits fresh units n clause = Contains fresh n ⊎ (IsOpenClause lits clause ⊎ (Waits units n × (IsFalseOn lits clause → ⊥)))
 
 -- so is each clause that is known
 abbrev pub Covers : List (List Lit) → List Lit → List ℕ → List Waiting → Type 0
-Covers known lits fresh units = (n : ℕ) (clause : List Lit) → slice_get known n ≡ Some clause → IsMinded lits fresh units n clause
+Covers known lits fresh units = (n : ℕ) (clause : List Lit) → slice_get known n ≡ Some clause → IsCovered lits fresh units n clause
 
 -- the clause with this number gives no literal
 abbrev pub GivesNone : List (List Lit) → List Lit → ℕ → Type 0

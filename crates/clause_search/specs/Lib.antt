@@ -4,7 +4,7 @@ pub mod Answers
 pub mod Courses
 pub mod Cursors
 pub mod Lessons
-pub mod Minds
+pub mod Upkeep
 pub mod Opened
 pub mod Standings
 pub mod Starts

@@ -3,7 +3,7 @@ ghost use Rattle.std.specs.Prelude.{◌≡◌, ℕ, ◌≤◌};
 ghost use Rattle.whole.specs.Budget.{counts};
 ghost use Rattle.learned_clause.specs.Trails.{known_with};
 ghost use Rattle.clause_search.specs.Courses.{work_at_clash};
-ghost use Rattle.clause_search.specs.Minds.{Keeps, MindsStep};
+ghost use Rattle.clause_search.specs.Upkeep.{IsKeptAt, CoveringStep};
 ghost use Rattle.clause_search.specs.Steps.{IsConflict, IsJump, MayJump, Refutes, Steps};
 
 use crate::course::Course;
@@ -26,9 +26,9 @@ pub(crate) fn conflict<T: Theory>(
     budget: &mut Budget,
     start: Start,
 ) -> Step
-    requires keeps { Keeps clauses.now course.old }
+    requires kept { IsKeptAt clauses.now course.old }
     requires start { (s : T.State) × IsConflict T.relations clauses.now s course.old (T.seen theory.old) (counts budget.old) start }
-    ensures minds { MindsStep clauses.now course.new result }
+    ensures covering { CoveringStep clauses.now course.new result }
     ensures steps { (s : T.State) → IsConflict T.relations clauses.now s course.old (T.seen theory.old) (counts budget.old) start → (work : ℕ) → work_at_clash course.old (counts budget.old) ≤ work → Steps T.relations clauses.now s work course.new (T.seen theory.new) (counts budget.new) result }
     ensures rows { (T.seen theory.new).rows ≡ (T.seen theory.old).rows }
     ensures limit { budget.new.limit ≡ budget.old.limit }
@@ -78,9 +78,9 @@ fn backjump<T: Theory>(
     lemma: Lemma,
     keep: u32,
 ) -> Step
-    requires keeps { Keeps clauses.now course.old }
+    requires kept { IsKeptAt clauses.now course.old }
     requires may { MayJump (known_with clauses.now.clauses course.old.lemmas) (T.seen theory.old) (counts budget.old) keep }
-    ensures minds { (s : T.State) → IsJump T.relations clauses.now s course.old (T.seen theory.old) (counts budget.old) lemma keep → MindsStep clauses.now course.new result }
+    ensures covering { (s : T.State) → IsJump T.relations clauses.now s course.old (T.seen theory.old) (counts budget.old) lemma keep → CoveringStep clauses.now course.new result }
     ensures steps { (s : T.State) → IsJump T.relations clauses.now s course.old (T.seen theory.old) (counts budget.old) lemma keep → (work : ℕ) → work_at_clash course.old (counts budget.old) ≤ work → Steps T.relations clauses.now s work course.new (T.seen theory.new) (counts budget.new) result }
     ensures rows { (T.seen theory.new).rows ≡ (T.seen theory.old).rows }
     ensures limit { budget.new.limit ≡ budget.old.limit }

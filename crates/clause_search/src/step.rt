@@ -2,7 +2,7 @@
 ghost use Rattle.std.specs.Prelude.{◌≡◌, ℕ, ◌≤◌, []};
 ghost use Rattle.whole.specs.Budget.{counts};
 ghost use Rattle.clause_search.specs.Courses.{IsAt, work_left};
-ghost use Rattle.clause_search.specs.Minds.{Minds, MindsHeard, MindsStep, MindsTurn};
+ghost use Rattle.clause_search.specs.Upkeep.{IsCovering, CoveringAsked, CoveringStep, CoveringTurn};
 ghost use Rattle.clause_search.specs.Steps.{Asks, Chooses, IfFree, IsAdvancing, IsDeciding, IsAllowedStop, IsPropagating, LeavesLess, Steps, Turns};
 
 use crate::agenda::Reason;
@@ -54,9 +54,9 @@ pub(crate) fn take_step<T: Theory, G: Guide<T>>(
     guide: &mut G,
     may_stop: bool,
 ) -> Turn
-    requires minds { Minds clauses.now course.old }
+    requires covering { IsCovering clauses.now course.old }
     requires at { (s : T.State) × IsAt T.relations clauses.now s course.old (T.seen theory.old) (counts budget.old) }
-    ensures minds { MindsTurn clauses.now course.new result }
+    ensures covering { CoveringTurn clauses.now course.new result }
     ensures turns { (s : T.State) → IsAt T.relations clauses.now s course.old (T.seen theory.old) (counts budget.old) → Turns T.relations clauses.now s (IsAllowedStop may_stop (G.stops clauses.now guide.new theory.new)) (work_left course.old (counts budget.old)) course.new (T.seen theory.new) (counts budget.new) result }
     ensures rows { (T.seen theory.new).rows ≡ (T.seen theory.old).rows }
     ensures limit { budget.new.limit ≡ budget.old.limit }
@@ -96,9 +96,9 @@ fn after<T: Theory>(
     budget: &mut Budget,
     heard: Heard,
 ) -> Step
-    requires minds { MindsHeard clauses.now course.old heard }
+    requires covering { CoveringAsked clauses.now course.old heard }
     requires asks { (s : T.State) × Asks T.relations clauses.now s course.old (T.seen theory.old) (counts budget.old) heard }
-    ensures minds { MindsStep clauses.now course.new result }
+    ensures covering { CoveringStep clauses.now course.new result }
     ensures steps { (s : T.State) (work : ℕ) → Asks T.relations clauses.now s course.old (T.seen theory.old) (counts budget.old) heard → LeavesLess work course.old (counts budget.old) heard → Steps T.relations clauses.now s work course.new (T.seen theory.new) (counts budget.new) result }
     ensures rows { (T.seen theory.new).rows ≡ (T.seen theory.old).rows }
     ensures limit { budget.new.limit ≡ budget.old.limit }
@@ -129,10 +129,10 @@ fn advance<T: Theory, G: Guide<T>>(
     guide: &mut G,
     may_stop: bool,
 ) -> Turn
-    requires minds { Minds clauses.now course.old }
+    requires covering { IsCovering clauses.now course.old }
     requires none { course.old.agenda.fresh.items ≡ [] }
     requires advancing { (s : T.State) × IsAdvancing T.relations clauses.now s course.old (T.seen theory.old) (counts budget.old) }
-    ensures minds { MindsTurn clauses.now course.new result }
+    ensures covering { CoveringTurn clauses.now course.new result }
     ensures turns { (s : T.State) → IsAdvancing T.relations clauses.now s course.old (T.seen theory.old) (counts budget.old) → Turns T.relations clauses.now s (IsAllowedStop may_stop (G.stops clauses.now guide.new theory.new)) (work_left course.old (counts budget.old)) course.new (T.seen theory.new) (counts budget.new) result }
     ensures rows { (T.seen theory.new).rows ≡ (T.seen theory.old).rows }
     ensures limit { budget.new.limit ≡ budget.old.limit }
@@ -160,9 +160,9 @@ fn propagate<T: Theory>(
     budget: &mut Budget,
     reason: Reason,
 ) -> Step
-    requires minds { Minds clauses.now course.old }
+    requires covering { IsCovering clauses.now course.old }
     requires propagating { (s : T.State) × IsPropagating T.relations clauses.now s course.old (T.seen theory.old) (counts budget.old) reason.lit reason.by }
-    ensures minds { MindsStep clauses.now course.new result }
+    ensures covering { CoveringStep clauses.now course.new result }
     ensures steps { (s : T.State) → IsPropagating T.relations clauses.now s course.old (T.seen theory.old) (counts budget.old) reason.lit reason.by → Steps T.relations clauses.now s (work_left course.old (counts budget.old)) course.new (T.seen theory.new) (counts budget.new) result }
     ensures rows { (T.seen theory.new).rows ≡ (T.seen theory.old).rows }
     ensures limit { budget.new.limit ≡ budget.old.limit }
@@ -182,9 +182,9 @@ fn consult<T: Theory, G: Guide<T>>(
     wish: Option<Lit>,
     may_stop: bool,
 ) -> Turn
-    requires minds { Minds clauses.now course.old }
+    requires covering { IsCovering clauses.now course.old }
     requires deciding { (s : T.State) × IsDeciding T.relations clauses.now s course.old (T.seen theory.old) (counts budget.old) wish }
-    ensures minds { MindsTurn clauses.now course.new result }
+    ensures covering { CoveringTurn clauses.now course.new result }
     ensures turns { (s : T.State) → IsDeciding T.relations clauses.now s course.old (T.seen theory.old) (counts budget.old) wish → Turns T.relations clauses.now s (IsAllowedStop may_stop (G.stops clauses.now guide.new theory.new)) (work_left course.old (counts budget.old)) course.new (T.seen theory.new) (counts budget.new) result }
     ensures rows { (T.seen theory.new).rows ≡ (T.seen theory.old).rows }
     ensures limit { budget.new.limit ≡ budget.old.limit }
@@ -218,9 +218,9 @@ fn decide<T: Theory>(
     advice: Option<Lit>,
     wish: Option<Lit>,
 ) -> Step
-    requires minds { Minds clauses.now course.old }
+    requires covering { IsCovering clauses.now course.old }
     requires deciding { (s : T.State) × IsDeciding T.relations clauses.now s course.old (T.seen theory.old) (counts budget.old) wish }
-    ensures minds { MindsStep clauses.now course.new result }
+    ensures covering { CoveringStep clauses.now course.new result }
     ensures steps { (s : T.State) → IsDeciding T.relations clauses.now s course.old (T.seen theory.old) (counts budget.old) wish → Steps T.relations clauses.now s (work_left course.old (counts budget.old)) course.new (T.seen theory.new) (counts budget.new) result }
     ensures rows { (T.seen theory.new).rows ≡ (T.seen theory.old).rows }
     ensures limit { budget.new.limit ≡ budget.old.limit }

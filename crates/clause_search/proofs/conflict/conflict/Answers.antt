@@ -24,9 +24,9 @@ returns-else-is_empty-clause-steps g c s fails work most =
     let from = begun_from g.T.Theory.relations c.args.clauses.now s c.args.course.now.trail c.args.course.now.lemmas c.args.course.now.journal.moves (g.T.Theory.seen c.args.theory.now) (counts c.args.budget.now) c.args.start here.from begun here.one in
     c.backjump.ensures.steps s (jump_of g.T.Theory.relations c.args.clauses.now s c.args.course.now.trail c.args.course.now.lemmas c.args.course.now.journal.moves (g.T.Theory.seen c.args.theory.now) (counts c.args.budget.now) here.from (record { clause = c.in-Ok.field-0.clause; proof = c.in-Ok.field-0.proof }) c.in-Ok.field-0.keep from here.follows here.exact (false_of c.is_empty.result c.is_empty.ensures c.if-is_empty.false)) work most
 
-pub returns-else-is_empty-clause-minds : goal.returns-else-is_empty-clause-minds
-returns-else-is_empty-clause-minds g c =
+pub returns-else-is_empty-clause-covering : goal.returns-else-is_empty-clause-covering
+returns-else-is_empty-clause-covering g c =
     let begun = conflict_begun g.T.Theory.relations c.args.clauses.now c.requires.start.0 c.args.course.now (g.T.Theory.seen c.args.theory.now) (counts c.args.budget.now) c.args.start c.requires.start.1 in
     let here = learned_for c.args.clauses.now c.args.course.now.trail c.args.course.now.lemmas c.as_slice.result.now c.args.start c.in-Ok.field-0 c.as_slice.ensures c.in-Ok.ensures.learned in
     let from = begun_from g.T.Theory.relations c.args.clauses.now c.requires.start.0 c.args.course.now.trail c.args.course.now.lemmas c.args.course.now.journal.moves (g.T.Theory.seen c.args.theory.now) (counts c.args.budget.now) c.args.start here.from begun here.one in
-    c.backjump.ensures.minds c.requires.start.0 (jump_of g.T.Theory.relations c.args.clauses.now c.requires.start.0 c.args.course.now.trail c.args.course.now.lemmas c.args.course.now.journal.moves (g.T.Theory.seen c.args.theory.now) (counts c.args.budget.now) here.from (record { clause = c.in-Ok.field-0.clause; proof = c.in-Ok.field-0.proof }) c.in-Ok.field-0.keep from here.follows here.exact (false_of c.is_empty.result c.is_empty.ensures c.if-is_empty.false))
+    c.backjump.ensures.covering c.requires.start.0 (jump_of g.T.Theory.relations c.args.clauses.now c.requires.start.0 c.args.course.now.trail c.args.course.now.lemmas c.args.course.now.journal.moves (g.T.Theory.seen c.args.theory.now) (counts c.args.budget.now) here.from (record { clause = c.in-Ok.field-0.clause; proof = c.in-Ok.field-0.proof }) c.in-Ok.field-0.keep from here.follows here.exact (false_of c.is_empty.result c.is_empty.ensures c.if-is_empty.false))

@@ -14,7 +14,7 @@ assume-heard-requires g c =
 
 pub after-requires : goal.after-requires
 after-requires g c = record {
-  minds = c.assume-heard.ensures.minds c.args.clauses.now c.requires.minds;
+  covering = c.assume-heard.ensures.covering c.args.clauses.now c.requires.covering;
   asks = (c.requires.deciding.0, c.assume-heard.ensures.asks c.args.clauses.now c.requires.deciding.0 (may_decide g.T.Theory.relations c.args.clauses.now c.requires.deciding.0 c.args.course.now (g.T.Theory.seen c.args.theory.now) (counts c.args.budget.now) c.args.wish c.in-Some.lit c.requires.deciding.1 c.in-Some.ensures));
 }
 

@@ -1,4 +1,4 @@
--- What holds of a search's agenda and cursor at each step.
+-- What a search keeps of its agenda and its cursor at each step.
 use Rattle.std.specs.Prelude.{ℕ, List}
 use Rattle.std.specs.BinaryHeap.{heap_items}
 use Rattle.farkas_cert.specs.declared.literals.Lit.{Lit}
@@ -21,30 +21,30 @@ pub record IsKept (atoms : ℕ) (known : List (List Lit)) (lits : List Lit) (lis
   pub indexed : IsIndexed atoms known lists
   pub marked : IsMarked known lits cursor
 
-abbrev pub Keeps : Clauses → Course → Type 0
-Keeps c course = IsKept course.trail.atoms (known_with c.clauses course.lemmas) (literals course.trail.entries) course.agenda.occurrences.lists.items course.cursor
+abbrev pub IsKeptAt : Clauses → Course → Type 0
+IsKeptAt c course = IsKept course.trail.atoms (known_with c.clauses course.lemmas) (literals course.trail.entries) course.agenda.occurrences.lists.items course.cursor
 
 -- and the agenda covers each clause
-abbrev pub Minds : Clauses → Course → Type 0
-Minds c course = Keeps c course × Covers (known_with c.clauses course.lemmas) (literals course.trail.entries) course.agenda.fresh.items (heap_items course.agenda.units)
+abbrev pub IsCovering : Clauses → Course → Type 0
+IsCovering c course = IsKeptAt c course × Covers (known_with c.clauses course.lemmas) (literals course.trail.entries) course.agenda.fresh.items (heap_items course.agenda.units)
 
 -- so where the theory was asked: at a clash, a conflict begins
-abbrev pub MindsHeard : Clauses → Course → Heard → Type 0
-MindsHeard c course heard.Fine = Minds c course
-MindsHeard c course (heard.Clash parts) = Keeps c course
-MindsHeard c course heard.Spent = Unit {0}
-MindsHeard c course (heard.Stuck stuck) = Unit {0}
-MindsHeard c course heard.NoMemory = Unit {0}
+abbrev pub CoveringAsked : Clauses → Course → Heard → Type 0
+CoveringAsked c course heard.Fine = IsCovering c course
+CoveringAsked c course (heard.Clash parts) = IsKeptAt c course
+CoveringAsked c course heard.Spent = Unit {0}
+CoveringAsked c course (heard.Stuck stuck) = Unit {0}
+CoveringAsked c course heard.NoMemory = Unit {0}
 
 -- and where a step was made and the search goes on
-abbrev pub MindsStep : Clauses → Course → Step → Type 0
-MindsStep c course step.GoesOn = Minds c course
-MindsStep c course step.Total = Unit {0}
-MindsStep c course step.Closed = Unit {0}
-MindsStep c course step.Spent = Unit {0}
-MindsStep c course (step.Stuck stuck) = Unit {0}
-MindsStep c course step.NoMemory = Unit {0}
+abbrev pub CoveringStep : Clauses → Course → Step → Type 0
+CoveringStep c course step.GoesOn = IsCovering c course
+CoveringStep c course step.Total = Unit {0}
+CoveringStep c course step.Closed = Unit {0}
+CoveringStep c course step.Spent = Unit {0}
+CoveringStep c course (step.Stuck stuck) = Unit {0}
+CoveringStep c course step.NoMemory = Unit {0}
 
-abbrev pub MindsTurn : Clauses → Course → Turn → Type 0
-MindsTurn c course (turn.Takes made) = MindsStep c course made
-MindsTurn c course turn.Stops = Unit {0}
+abbrev pub CoveringTurn : Clauses → Course → Turn → Type 0
+CoveringTurn c course (turn.Takes made) = CoveringStep c course made
+CoveringTurn c course turn.Stops = Unit {0}

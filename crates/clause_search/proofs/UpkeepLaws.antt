@@ -19,7 +19,7 @@ use Rattle.clause_search.specs.declared.cursor.Cursor.{Cursor}
 use Rattle.clause_search.specs.Agendas.{Covers, IsIndexed}
 use Rattle.clause_search.specs.Cursors.{IsMarked}
 use Rattle.clause_search.specs.declared.occurrences.Occurrences.{Occurrences}
-use Rattle.clause_search.specs.Minds.{IsKept, Keeps, Minds, MindsHeard}
+use Rattle.clause_search.specs.Upkeep.{IsKept, IsKeptAt, IsCovering, CoveringAsked}
 use Rattle.clause_search.specs.Opened.{Cutting, IsOpened, Putting}
 use Rattle.clause_search.specs.Steps.{IsCutting}
 use Rattle.clause_search.specs.Tables.{View}
@@ -34,8 +34,8 @@ ReadyAt c view lemmas lists cursor fresh units =
 
 -- ---- the beginning
 
-pub minds_begun : (c : Clauses) (course : Course) → IsOpened c course → Minds c course
-minds_begun c course opened =
+pub covering_begun : (c : Clauses) (course : Course) → IsOpened c course → IsCovering c course
+covering_begun c course opened =
     subst (λ (v : View). ReadyAt c v course.lemmas lists course.cursor fresh units) (sym opened.trail) (
     subst (λ (ls : List Lemma). ReadyAt c (record { atoms = length c.atoms; entries = [] }) ls lists course.cursor fresh units) (sym opened.lemmas) (
       record {
@@ -56,8 +56,8 @@ minds_begun c course opened =
 
 -- ---- a literal is told
 
-pub minds_told : (c : Clauses) (old new : Course) (l : Lit) (by : Option ℕ) → l.atom < old.trail.atoms → Putting old l by new → Minds c old → Minds c new
-minds_told c old new l by less put (kept, covers) =
+pub covering_told : (c : Clauses) (old new : Course) (l : Lit) (by : Option ℕ) → l.atom < old.trail.atoms → Putting old l by new → IsCovering c old → IsCovering c new
+covering_told c old new l by less put (kept, covers) =
     subst (λ (v : View). ReadyAt c v new.lemmas lists new.cursor fresh units) (sym put.trail) (
     subst (λ (ls : List Lemma). ReadyAt c (record { atoms = old.trail.atoms; entries = longer }) ls lists new.cursor fresh units) (sym put.lemmas) (
     subst (λ (ls : List Lit). IsKept old.trail.atoms known ls lists new.cursor × Covers known ls fresh units) (sym (lits_more old.trail.entries (record { lit = l; by = by }))) (
@@ -83,21 +83,21 @@ minds_told c old new l by less put (kept, covers) =
     units : List Waiting
     units = heap_items new.agenda.units
 
-pub minds_heard : (c : Clauses) (course : Course) (answer : Heard) → Minds c course → MindsHeard c course answer
-minds_heard c course heard.Fine minds = minds
-minds_heard c course (heard.Clash parts) minds = minds.0
-minds_heard c course heard.Spent minds = tt
-minds_heard c course (heard.Stuck stuck) minds = tt
-minds_heard c course heard.NoMemory minds = tt
+pub covering_asked : (c : Clauses) (course : Course) (answer : Heard) → IsCovering c course → CoveringAsked c course answer
+covering_asked c course heard.Fine covering = covering
+covering_asked c course (heard.Clash parts) covering = covering.0
+covering_asked c course heard.Spent covering = tt
+covering_asked c course (heard.Stuck stuck) covering = tt
+covering_asked c course heard.NoMemory covering = tt
 
 -- the fresh clauses were looked at, and none is false
-pub minds_looked : (c : Clauses) (course : Course) (agenda : Agenda) (ls : List Lemma) (found : Option ℕ) (atoms : ℕ) → ls ≡ course.lemmas
+pub covering_looked : (c : Clauses) (course : Course) (agenda : Agenda) (ls : List Lemma) (found : Option ℕ) (atoms : ℕ) → ls ≡ course.lemmas
     → agenda.occurrences ≡ course.agenda.occurrences → found ≡ None → NamesOnce atoms (literals course.trail.entries)
     → ((n : ℕ) → NamesOnce n (literals course.trail.entries) → Covers (known_with c.clauses ls) (literals course.trail.entries) course.agenda.fresh.items (heap_items course.agenda.units)
     → IfNone found (Covers (known_with c.clauses ls) (literals course.trail.entries) agenda.fresh.items (heap_items agenda.units)))
-    → Minds c course → ReadyAt c course.trail course.lemmas agenda.occurrences.lists.items course.cursor agenda.fresh.items (heap_items agenda.units)
-minds_looked c course agenda ls (Some number) atoms same occurrences none once covers minds = absurd (cc)
-minds_looked c course agenda ls None atoms same occurrences none once covers (kept, before) = (
+    → IsCovering c course → ReadyAt c course.trail course.lemmas agenda.occurrences.lists.items course.cursor agenda.fresh.items (heap_items agenda.units)
+covering_looked c course agenda ls (Some number) atoms same occurrences none once covers covering = absurd (cc)
+covering_looked c course agenda ls None atoms same occurrences none once covers (kept, before) = (
   record {
     indexed = subst (λ (o : Occurrences). IsIndexed course.trail.atoms (known_with c.clauses course.lemmas) o.lists.items) (sym occurrences) kept.indexed;
     marked = kept.marked;
@@ -108,10 +108,10 @@ minds_looked c course agenda ls None atoms same occurrences none once covers (ke
 
 -- ---- the trail is cut
 
-pub minds_cut : {S : Type 0} (R : Relations S) (c : Clauses) (s : S) (old new : Course) (seen : TheoryView S) (n : Counts) (lemma : Lemma) (keep number : ℕ)
+pub covering_cut : {S : Type 0} (R : Relations S) (c : Clauses) (s : S) (old new : Course) (seen : TheoryView S) (n : Counts) (lemma : Lemma) (keep number : ℕ)
     → IsCutting R c s old.trail old.lemmas old.journal.moves seen n lemma keep → Cutting old lemma keep number new
-    → number ≡ length (known_with c.clauses old.lemmas) → Keeps c old → Minds c new
-minds_cut R c s old new seen n lemma keep number jump cutting last kept =
+    → number ≡ length (known_with c.clauses old.lemmas) → IsKeptAt c old → IsCovering c new
+covering_cut R c s old new seen n lemma keep number jump cutting last kept =
     subst (λ (v : View). ReadyAt c v new.lemmas lists new.cursor fresh units) (sym cutting.trail) (
     subst (λ (ls : List Lemma). ReadyAt c (record { atoms = old.trail.atoms; entries = shorter }) ls lists new.cursor fresh units) (sym cutting.lemmas) (
     subst (λ (ks : List (List Lit)). IsKept old.trail.atoms ks (literals shorter) lists new.cursor × Covers ks (literals shorter) fresh units) (sym (known_more c.clauses old.lemmas lemma)) (
