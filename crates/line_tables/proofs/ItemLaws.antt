@@ -8,7 +8,7 @@ use Rattle.text_lines.specs.Steps.{◌>>=◌}
 use Rattle.text_machine.specs.declared.faults.Fault.{Fault}
 use Rattle.text_machine.specs.declared.lists.LineFault.{LineFault}
 use Rattle.text_machine.specs.declared.lists.LineFault.TheVariants.{Item as OfItem, NoMemory}
-use Rattle.text_machine.specs.Items.{Want, whole}
+use Rattle.text_machine.specs.Items.{Want, natural, whole}
 use Rattle.text_machine.specs.Lines.{LineForm, stop, number, times, take, take_end, spell_line, Suits, read_line}
 use Rattle.text_machine.specs.Given.{FailsLine}
 use Rattle.line_tables.specs.declared.tables.Item.{Item}
@@ -72,6 +72,22 @@ unfolding form_of read_line
 last_kind kinds i front items le =
     let none : drop i kinds ≡ [] = rw (drop_of_length-le kinds le) refl in
     ap (λ (left : List Item). onto front (read_line (form_of left) items)) none
+
+-- a kind that is of this form
+pub as_natural : (low high : ℕ) (kind : Item) (kinds : List Item) (front : List ℤ) (items : List (List ℕ)) → kind ≡ Natural low high
+    → onto front (read_line (form_of (kind ∷ kinds)) items) ≡ onto front (read_line (number (natural low high) (λ _. form_of kinds)) items)
+unfolding form_of
+as_natural low high kind kinds front items is = ap (λ (k : Item). onto front (read_line (form_of (k ∷ kinds)) items)) is
+
+pub as_whole : (kind : Item) (kinds : List Item) (front : List ℤ) (items : List (List ℕ)) → kind ≡ Whole
+    → onto front (read_line (form_of (kind ∷ kinds)) items) ≡ onto front (read_line (number whole (λ _. form_of kinds)) items)
+unfolding form_of
+as_whole kind kinds front items is = ap (λ (k : Item). onto front (read_line (form_of (k ∷ kinds)) items)) is
+
+pub as_wholes : (most : ℕ) (kind : Item) (kinds : List Item) (front : List ℤ) (items : List (List ℕ)) → kind ≡ Wholes most
+    → onto front (read_line (form_of (kind ∷ kinds)) items) ≡ onto front (read_line (number (natural 0 most) (λ count. times (unsigned_abs count) whole (form_of kinds))) items)
+unfolding form_of
+as_wholes most kind kinds front items is = ap (λ (k : Item). onto front (read_line (form_of (k ∷ kinds)) items)) is
 
 -- ---- what is spelled
 

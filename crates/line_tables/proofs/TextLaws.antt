@@ -9,6 +9,9 @@ use Rattle.text_lines.specs.Lines.{Unread, next, is_over, is_finished}
 use Rattle.text_lines.specs.Pieces.{pieces}
 use Rattle.text_lines.specs.Steps.{Fails, ◌>>=◌}
 use Rattle.text_machine.specs.declared.faults.Fault.{Fault}
+use Rattle.text_machine.specs.declared.lists.LineFault.{LineFault}
+use Rattle.text_machine.specs.declared.lists.LineFault.TheVariants.{Item as OfItem}
+use Rattle.text_machine.specs.Given.{FailsLine}
 use Rattle.text_machine.specs.Texts.{Table, Format, GivesText, named, step, finish}
 use Rattle.text_machine.proofs.LoopLaws.{Feeding, feeding_start, feeding_more, feeding_fails, feeding_ends}
 use Rattle.text_machine.proofs.ScriptLaws.{unread}
@@ -35,6 +38,9 @@ line_read letter rules ok s t k line zs e led = by_form letter rules ok s k line
 
 pub line_refused : (letter : ℕ) (rules : List Rule) (ok : AreWords rules) (s : Spot) (k : ℕ) (line : List ℕ) (fault : Fault) → form_read (form_in rules ok s) (pieces 32 line) ≡ Err fault → step (format letter rules ok) s k line ≡ Err (refusal letter (number_of fault) k)
 line_refused letter rules ok s k line fault e = by_form letter rules ok s k line ∙ ap (after letter rules s k) e
+
+pub item_fault : (e : LineFault) (fault : Fault) (read : Result (List ℤ) Fault) → e ≡ OfItem fault → FailsLine e read → read ≡ Err fault
+item_fault e fault read is failed = subst (λ (d : LineFault). FailsLine d read) is failed
 
 -- ---- the text ends behind its last line
 

@@ -40,10 +40,14 @@ fn take_item(
             take_natural(fields, low, high, numbers)?;
             Ok(())
         }
-        Item::Whole => take_whole(fields, numbers),
+        Item::Whole => {
+            take_whole(fields, numbers)?;
+            Ok(())
+        }
         Item::Wholes(most) => {
             let count = take_natural(fields, 0, most, numbers)?;
-            take_wholes(fields, count, numbers)
+            take_wholes(fields, count, numbers)?;
+            Ok(())
         }
     }
 }

@@ -40,7 +40,8 @@ fn put_row(out: &mut String, lines: &[Line], row: &Row) -> Result<(), AllocError
 {
     out.push_str(word_at(lines, row.line))?;
     put_numbers(out, row.numbers.as_slice())?;
-    out.push_str("\n")
+    out.push_str("\n")?;
+    Ok(())
 }
 
 fn word_at(lines: &[Line], at: usize) -> &'static str

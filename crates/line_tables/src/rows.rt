@@ -58,10 +58,11 @@ fn numbers_of(
     ensures exact { GivesLine (λ zs. zs) result (read_line (form_at (rule_of line) spot) fields.old) }
     ensures stands { IfOk result (λ _. may_stand line.place spot ≡ true) }
 {
-    if !may_stand(line.place, spot) {
-        return Err(LineFault::Item(Fault::Misplaced));
+    if may_stand(line.place, spot) {
+        items_of(alloc, fields, line.items)
+    } else {
+        Err(LineFault::Item(Fault::Misplaced))
     }
-    items_of(alloc, fields, line.items)
 }
 
 /// Takes the word of a line of the table: the line's place and itself.

@@ -1,4 +1,5 @@
-use Rattle.std.proofs.Common.{◌<◌, ◌^◌, pos, arith}
+use Rattle.std.proofs.Common.{◌<◌, ◌^◌, ◌∷◌, [], ◌++◌, ◌≡◌, ◌∙◌, List, ℤ, ap, pos, arith}
+use Rattle.std.specs.Int.{w128}
 use Rattle.std.proofs.lemmas.Int.{to_z_pos}
 use Rattle.std.proofs.lemmas.Result.{err_from_is_err_and}
 use Rattle.text_machine.specs.Items.{natural}
@@ -12,4 +13,7 @@ returns-in_err-found c = λ form.
 
 pub returns : goal.returns
 returns c = λ form.
-    rw (simp to_z_pos at c.in_ok-push.ensures.ok) (number_taken (natural c.args.low c.args.high) form c.args.numbers.now c.args.fields.now c.natural.new.self (pos c.in_ok-found.found) c.in_ok-found.ensures.exact)
+    let fits : c.in_ok-found.found < 2 ^ 127 = omega (arith, c.in_ok-found.ensures.range.1, c.ranges.high.fits) in
+    let longer : c.push.new.self ≡ c.args.numbers.now ++ pos c.in_ok-found.found ∷ [] =
+    c.in_ok-push.ensures.ok ∙ ap (λ (z : ℤ). c.args.numbers.now ++ z ∷ []) (to_z_pos w128 c.in_ok-found.found fits) in
+    rw longer (number_taken (natural c.args.low c.args.high) form c.args.numbers.now c.args.fields.now c.natural.new.self (pos c.in_ok-found.found) c.in_ok-found.ensures.exact)
