@@ -3,21 +3,16 @@ ghost use Rattle.std.specs.Prelude.{◌≡◌, [], ◌∷◌, ◌++◌, map, IfO
 ghost use Rattle.std.specs.Fmt.{signed_decimal};
 ghost use Rattle.text_lines.specs.Pieces.{ended, spaced, text};
 ghost use Rattle.text_lines.specs.Steps.{numbered};
-ghost use Rattle.line_tables.specs.Tables.{AreRows, AreWords, IsText, format, numbers, row_items, row_texts, rule_at, rules_of};
+ghost use Rattle.line_tables.specs.Tables.{AreRows, AreWords, IsText, format, numbers, row_items, row_texts, rules_of};
 
 use crate::spots::Spot;
-use crate::tables::{Line, Row};
+use crate::tables::{Line, Row, word_of};
 use std::alloc::{AllocError, Global};
 use std::fmt::Write;
 use whole::NoMemory;
 
 /// The one text of these rows, which are all those of a text.
-pub fn print(
-    alloc: Global,
-    letter: u8,
-    lines: &[Line],
-    rows: &[Row],
-) -> Result<Vec<u8>, NoMemory>
+pub fn print(alloc: Global, letter: u8, lines: &[Line], rows: &[Row]) -> Result<Vec<u8>, NoMemory>
     requires { (ok : AreWords (rules_of lines.now)) → AreRows (format letter (rules_of lines.now) ok) (map numbers rows.now) }
     ensures { (ok : AreWords (rules_of lines.now)) → IfOk result (λ bytes. IsText (format letter (rules_of lines.now) ok) bytes.items (map numbers rows.now)) }
 {
@@ -38,19 +33,10 @@ fn put_rows(out: &mut String, lines: &[Line], rows: &[Row]) -> Result<(), AllocE
 fn put_row(out: &mut String, lines: &[Line], row: &Row) -> Result<(), AllocError>
     ensures { OnOk result (string_bytes out.new ≡ string_bytes out.old ++ ended (row_items (rules_of lines.now) row.now)) }
 {
-    out.push_str(word_at(lines, row.line))?;
+    out.push_str(word_of(lines, row))?;
     put_numbers(out, row.numbers.as_slice())?;
     out.push_str("\n")?;
     Ok(())
-}
-
-fn word_at(lines: &[Line], at: usize) -> &'static str
-    ensures { result.now ≡ (rule_at (rules_of lines.now) at).word }
-{
-    match lines.get(at) {
-        Some(line) => line.word,
-        None => "",
-    }
 }
 
 /// The numbers, each behind a space.

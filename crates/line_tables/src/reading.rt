@@ -77,9 +77,11 @@ fn take_row(
 {
     match read_row(alloc, lines, spot, text) {
         Ok(found) => Ok(found),
-        Err(LineFault::Item(fault)) => Err(
-            ReadFault::Refused(refusal(letter, number_of(fault), number)),
-        ),
+        Err(LineFault::Item(fault)) => Err(ReadFault::Refused(refusal(
+            letter,
+            number_of(fault),
+            number,
+        ))),
         Err(LineFault::NoMemory) => Err(ReadFault::NoMemory),
     }
 }

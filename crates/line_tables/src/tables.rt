@@ -1,3 +1,6 @@
+ghost use Rattle.std.specs.Prelude.{◌≡◌};
+ghost use Rattle.line_tables.specs.Tables.{rule_at, rules_of};
+
 use sqlite_items::Items;
 
 /// A line of a table.
@@ -43,4 +46,14 @@ pub struct Row {
     pub line: usize,
     /// The numbers of the items behind its word.
     pub numbers: Items<i128>,
+}
+
+/// The word with which the line of the row begins.
+pub fn word_of(lines: &[Line], row: &Row) -> &'static str
+    ensures { result.now ≡ (rule_at (rules_of lines.now) row.now.line).word }
+{
+    match lines.get(row.line) {
+        Some(line) => line.word,
+        None => "",
+    }
 }
