@@ -19,40 +19,40 @@ use Rattle.text_machine.proofs.TextLaws.{text_taken}
 use Rattle.line_tables.specs.declared.tables.Row.{Row}
 use Rattle.line_tables.specs.declared.spots.Spot.{Spot}
 use Rattle.line_tables.specs.declared.spots.Spot.TheVariants.{Start, Body, Done}
-use Rattle.line_tables.specs.Tables.{Rule, AreWords, IsText, form_in, format, leads, number_of, numbers, refusal, text_read}
+use Rattle.line_tables.specs.Tables.{Rule, IsText, form_in, format, leads, number_of, numbers, refusal, text_read}
 use Rattle.line_tables.specs.Given.{finished, form_read}
 
 -- ---- one line is read
 
-by_form : (letter : ℕ) (rules : List Rule) (ok : AreWords rules) (s : Spot) (k : ℕ) (line : List ℕ) → step (format letter rules ok) s k line ≡ (named (λ fault. refusal letter (number_of fault) k) (form_read (form_in rules ok s) (pieces 32 line)) >>= λ zs. Ok (zs, leads rules s zs))
+by_form : (letter : ℕ) (rules : List Rule) (s : Spot) (k : ℕ) (line : List ℕ) → step (format letter rules) s k line ≡ (named (λ fault. refusal letter (number_of fault) k) (form_read (form_in rules s) (pieces 32 line)) >>= λ zs. Ok (zs, leads rules s zs))
 unfolding step
-by_form letter rules ok Start k line = refl
-by_form letter rules ok (Body version depth) k line = refl
-by_form letter rules ok Done k line = refl
+by_form letter rules Start k line = refl
+by_form letter rules (Body version depth) k line = refl
+by_form letter rules Done k line = refl
 
 abbrev after : ℕ → List Rule → Spot → ℕ → Result (List ℤ) Fault → Result (List ℤ × Spot) Refusal
 after letter rules s k found = named (λ fault. refusal letter (number_of fault) k) found >>= λ zs. Ok (zs, leads rules s zs)
 
-pub line_read : (letter : ℕ) (rules : List Rule) (ok : AreWords rules) (s t : Spot) (k : ℕ) (line : List ℕ) (zs : List ℤ) → form_read (form_in rules ok s) (pieces 32 line) ≡ Ok zs → t ≡ leads rules s zs → step (format letter rules ok) s k line ≡ Ok (zs, t)
-line_read letter rules ok s t k line zs e led = by_form letter rules ok s k line ∙ ap (after letter rules s k) e ∙ ap (λ (u : Spot). Ok (zs, u)) (sym led)
+pub line_read : (letter : ℕ) (rules : List Rule) (s t : Spot) (k : ℕ) (line : List ℕ) (zs : List ℤ) → form_read (form_in rules s) (pieces 32 line) ≡ Ok zs → t ≡ leads rules s zs → step (format letter rules) s k line ≡ Ok (zs, t)
+line_read letter rules s t k line zs e led = by_form letter rules s k line ∙ ap (after letter rules s k) e ∙ ap (λ (u : Spot). Ok (zs, u)) (sym led)
 
-pub line_refused : (letter : ℕ) (rules : List Rule) (ok : AreWords rules) (s : Spot) (k : ℕ) (line : List ℕ) (fault : Fault) → form_read (form_in rules ok s) (pieces 32 line) ≡ Err fault → step (format letter rules ok) s k line ≡ Err (refusal letter (number_of fault) k)
-line_refused letter rules ok s k line fault e = by_form letter rules ok s k line ∙ ap (after letter rules s k) e
+pub line_refused : (letter : ℕ) (rules : List Rule) (s : Spot) (k : ℕ) (line : List ℕ) (fault : Fault) → form_read (form_in rules s) (pieces 32 line) ≡ Err fault → step (format letter rules) s k line ≡ Err (refusal letter (number_of fault) k)
+line_refused letter rules s k line fault e = by_form letter rules s k line ∙ ap (after letter rules s k) e
 
 pub item_fault : (e : LineFault) (fault : Fault) (read : Result (List ℤ) Fault) → e ≡ OfItem fault → FailsLine e read → read ≡ Err fault
 item_fault e fault read is failed = subst (λ (d : LineFault). FailsLine d read) is failed
 
 -- ---- the text ends behind its last line
 
-pub whole_at_end : (letter : ℕ) (rules : List Rule) (ok : AreWords rules) (front : Table) (k : ℕ) (rest : List ℕ) → is_over (rest ∷ []) ≡ true → finished (format letter rules ok) Done front k rest ≡ Ok front
+pub whole_at_end : (letter : ℕ) (rules : List Rule) (front : Table) (k : ℕ) (rest : List ℕ) → is_over (rest ∷ []) ≡ true → finished (format letter rules) Done front k rest ≡ Ok front
 unfolding finish is_over
-whole_at_end letter rules ok front k [] e = ap (λ (ts : Table). Ok ts) (append-nil front)
-whole_at_end letter rules ok front k (b ∷ rest) e = absurd (cc)
+whole_at_end letter rules front k [] e = ap (λ (ts : Table). Ok ts) (append-nil front)
+whole_at_end letter rules front k (b ∷ rest) e = absurd (cc)
 
-pub more_at_end : (letter : ℕ) (rules : List Rule) (ok : AreWords rules) (front : Table) (k : ℕ) (rest : List ℕ) → is_over (rest ∷ []) ≡ false → finished (format letter rules ok) Done front k rest ≡ Err (refusal letter 3 k)
+pub more_at_end : (letter : ℕ) (rules : List Rule) (front : Table) (k : ℕ) (rest : List ℕ) → is_over (rest ∷ []) ≡ false → finished (format letter rules) Done front k rest ≡ Err (refusal letter 3 k)
 unfolding finish is_over
-more_at_end letter rules ok front k [] e = absurd (cc)
-more_at_end letter rules ok front k (b ∷ rest) e = refl
+more_at_end letter rules front k [] e = absurd (cc)
+more_at_end letter rules front k (b ∷ rest) e = refl
 
 -- ---- all lines are read
 

@@ -1,21 +1,22 @@
 -- A format as a table of lines: the word of each, what stands behind it, where it may stand and where it leads.
 use Rattle.std.specs.Prelude.{◌≡◌, ℕ, ◌+◌, ◌-◌, nat_eq, nat_le, nat_lt, ℤ, pos, unsigned_abs, Bool, true, false, ◌&&◌, if◌then◌else◌, List, [], ◌∷◌, ◌++◌, map, length, Option, None, Some, Result, Ok}
-use Rattle.std.proofs.Common.{get_or}
+use Rattle.std.proofs.Common.{get_or, refl}
 use Rattle.std.specs.List.{list_all}
 use Rattle.std.specs.Fmt.{signed_decimal}
 use Rattle.whole.specs.declared.answers.Refusal.{Refusal}
-use Rattle.text_lines.specs.Pieces.{pieces}
+use Rattle.text_lines.specs.Pieces.{pieces, text}
 use Rattle.text_lines.specs.Steps.{◌>>=◌}
 use Rattle.text_machine.specs.declared.faults.Fault.{Fault}
 use Rattle.text_machine.specs.declared.faults.Fault.TheVariants.{Large, Misplaced}
 use Rattle.text_machine.specs.Items.{is_item, natural, whole, one_of}
 use Rattle.text_machine.specs.Lines.{LineForm, stop, number, fails, times}
-use Rattle.text_machine.specs.Texts.{Table, Format, IsTextOf, IsWhole, FirstRefused, read_text, feed, finish}
+use Rattle.text_machine.specs.Texts.{Table, Format, IsTextOf, IsWhole, FirstRefused, spell_lines, read_text, feed, finish}
 use Rattle.line_tables.specs.declared.tables.Item.{Item}
 use Rattle.line_tables.specs.declared.tables.Item.TheVariants.{Natural, Whole, Wholes}
 use Rattle.line_tables.specs.declared.tables.Place.{Place}
 use Rattle.line_tables.specs.declared.tables.Place.TheVariants.{Header, Within, Opens, Closes, Ends}
 use Rattle.line_tables.specs.declared.tables.Line.{Line}
+use Rattle.line_tables.specs.declared.tables.LineTable.{LineTable}
 use Rattle.line_tables.specs.declared.tables.Row.{Row}
 use Rattle.line_tables.specs.declared.spots.Spot.{Spot}
 use Rattle.line_tables.specs.declared.spots.Spot.TheVariants.{Start, Body, Done}
@@ -87,13 +88,21 @@ abbrev pub form_at : Rule → Spot → LineForm
 form_at r s = if may_stand r.place s then form_of r.items else fails Misplaced
 
 -- the word of a rule, which counts as its place in the table, and what is wanted behind it
-abbrev pub line_form : (rules : List Rule) → AreWords rules → Spot → LineForm
-line_form rules ok s = number (one_of (words rules) ok) (λ word. form_at (rule_at rules (unsigned_abs word)) s)
+abbrev pub line_with : (rules : List Rule) → AreWords rules → Spot → LineForm
+line_with rules ok s = number (one_of (words rules) ok) (λ word. form_at (rule_at rules (unsigned_abs word)) s)
 
-abbrev pub form_in : (rules : List Rule) → AreWords rules → Spot → Option LineForm
-form_in rules ok Start = Some (line_form rules ok Start)
-form_in rules ok (Body version depth) = Some (line_form rules ok (Body version depth))
-form_in rules ok Done = None
+-- where a word of the table is no item, no line may stand
+abbrev pub line_by : (rules : List Rule) (t : Bool) → list_all is_item (words rules) ≡ t → Spot → LineForm
+line_by rules true ok s = line_with rules ok s
+line_by rules false bad s = fails Misplaced
+
+abbrev pub line_form : List Rule → Spot → LineForm
+line_form rules s = line_by rules (list_all is_item (words rules)) refl s
+
+abbrev pub form_in : List Rule → Spot → Option LineForm
+form_in rules Start = Some (line_form rules Start)
+form_in rules (Body version depth) = Some (line_form rules (Body version depth))
+form_in rules Done = None
 
 abbrev pub leads : List Rule → Spot → List ℤ → Spot
 leads rules s [] = s
@@ -109,14 +118,18 @@ number_of Misplaced = 3
 number_of _ = 1
 
 -- 4 on a text that ends too early
-abbrev pub format : ℕ → (rules : List Rule) → AreWords rules → Format Spot Refusal
-format letter rules ok = record {
-  form = form_in rules ok;
+abbrev pub format : ℕ → List Rule → Format Spot Refusal
+format letter rules = record {
+  form = form_in rules;
   next = leads rules;
   blame = λ s k fault. refusal letter (number_of fault) k;
   ended = λ s k rest. refusal letter 4 k;
   behind = refusal letter 3;
 }
+
+-- the format of a table of the code
+abbrev pub format_of : LineTable → Format Spot Refusal
+format_of table = format table.letter (rules_of table.lines.now)
 
 -- ---- whole texts
 
@@ -137,6 +150,10 @@ text_fed f lines rest = feed f Start 1 lines >>= λ y. finish f y.1 (1 + length 
 -- these are the numbers of all lines of a text
 abbrev pub AreRows : Format Spot Refusal → Table → Type 0
 AreRows f table = IsWhole f Start table
+
+-- the text of these numbers
+abbrev pub text_of : Format Spot Refusal → Table → List ℕ
+text_of f table = text (spell_lines f Start table)
 
 -- ---- rows
 

@@ -17,4 +17,4 @@ pub use laws::texts_are_told_apart;
 pub use printing::print;
 pub use reading::read;
 pub use spots::Spot;
-pub use tables::{Item, Line, Place, Row, word_of};
+pub use tables::{Item, Line, LineTable, Place, Row, word_of};

@@ -3,21 +3,21 @@ ghost use Rattle.std.specs.Prelude.{◌≡◌, [], ◌∷◌, ◌++◌, map, IfO
 ghost use Rattle.std.specs.Fmt.{signed_decimal};
 ghost use Rattle.text_lines.specs.Pieces.{ended, spaced, text};
 ghost use Rattle.text_lines.specs.Steps.{numbered};
-ghost use Rattle.line_tables.specs.Tables.{AreRows, AreWords, IsText, format, numbers, row_items, row_texts, rules_of};
+ghost use Rattle.line_tables.specs.Tables.{AreRows, AreWords, IsText, format_of, numbers, row_items, row_texts, rules_of};
 
-use crate::spots::Spot;
-use crate::tables::{Line, Row, word_of};
+use crate::tables::{Line, LineTable, Row, word_of};
 use std::alloc::{AllocError, Global};
 use std::fmt::Write;
 use whole::NoMemory;
 
 /// The one text of these rows, which are all those of a text.
-pub fn print(alloc: Global, letter: u8, lines: &[Line], rows: &[Row]) -> Result<Vec<u8>, NoMemory>
-    requires { (ok : AreWords (rules_of lines.now)) → AreRows (format letter (rules_of lines.now) ok) (map numbers rows.now) }
-    ensures { (ok : AreWords (rules_of lines.now)) → IfOk result (λ bytes. IsText (format letter (rules_of lines.now) ok) bytes.items (map numbers rows.now)) }
+pub fn print(alloc: Global, table: &LineTable, rows: &[Row]) -> Result<Vec<u8>, NoMemory>
+    requires words { AreWords (rules_of table.now.lines.now) }
+    requires whole { AreRows (format_of table.now) (map numbers rows.now) }
+    ensures { IfOk result (λ bytes. IsText (format_of table.now) bytes.items (map numbers rows.now)) }
 {
     let mut out = String::new(alloc);
-    put_rows(&mut out, lines, rows)?;
+    put_rows(&mut out, table.lines, rows)?;
     Ok(out.into_bytes())
 }
 

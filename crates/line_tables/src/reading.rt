@@ -4,38 +4,33 @@ ghost use Rattle.whole.specs.declared.answers.Refusal.{Refusal};
 ghost use Rattle.text_lines.specs.Lines.{is_over};
 ghost use Rattle.text_lines.specs.Steps.{GivesUnless};
 ghost use Rattle.text_machine.specs.Texts.{Table, GivesText, step};
-ghost use Rattle.line_tables.specs.Tables.{Rule, AreWords, IsRefused, IsText, format, number_of, numbers, refusal, rules_of, text_read};
+ghost use Rattle.line_tables.specs.Tables.{Rule, AreWords, IsRefused, IsText, format, format_of, number_of, numbers, refusal, rules_of, text_read};
 ghost use Rattle.line_tables.specs.Given.{GivesStep, finished};
 
 use crate::rows::read_row;
 use crate::spots::Spot;
-use crate::tables::{Line, Row};
+use crate::tables::{Line, LineTable, Row};
 use sqlite_items::Items;
 use std::alloc::Global;
 use text_lines::Lines;
 use text_machine::{Fault, LineFault};
 use whole::{ReadFault, Refusal};
 
-/// The rows of the text that the bytes are, by the table of these lines; where they are no such text, the first rule that
-/// they break, which has this letter: 1 a line of another form, 2 a number past `2^127 - 1`, 3 a line that may not stand
+/// The rows of the text that the bytes are, by the table; where they are no such text, the first rule that they break: 1 a line of another form, 2 a number past `2^127 - 1`, 3 a line that may not stand
 /// there or bytes behind the last one, 4 a missing last line or LF.
-pub fn read(
-    alloc: Global,
-    letter: u8,
-    lines: &[Line],
-    bytes: &[u8],
-) -> Result<Items<Row>, ReadFault>
-    requires { length bytes.now < 2 ^ 32 - 1 }
+pub fn read(alloc: Global, table: &LineTable, bytes: &[u8]) -> Result<Items<Row>, ReadFault>
+    requires words { AreWords (rules_of table.now.lines.now) }
+    requires short { length bytes.now < 2 ^ 32 - 1 }
 
     // What is read is the text of what is given, and what is such a text is read, unless memory runs out.
-    ensures found { (ok : AreWords (rules_of lines.now)) → IfOk result (λ rows. IsText (format letter (rules_of lines.now) ok) bytes.now (map numbers rows)) }
-    ensures only { (ok : AreWords (rules_of lines.now)) (table : Table) → IsText (format letter (rules_of lines.now) ok) bytes.now table → GivesText (map numbers) result (Ok table) }
+    ensures found { IfOk result (λ rows. IsText (format_of table.now) bytes.now (map numbers rows)) }
+    ensures only { (t : Table) → IsText (format_of table.now) bytes.now t → GivesText (map numbers) result (Ok t) }
 
     // What is refused breaks this rule first, and what breaks a rule first is refused by it, unless memory runs out.
-    ensures refused { (ok : AreWords (rules_of lines.now)) (r : Refusal) → IsErrOf result (ReadFault.Refused r) → IsRefused (format letter (rules_of lines.now) ok) bytes.now r }
-    ensures first { (ok : AreWords (rules_of lines.now)) (r : Refusal) → IsRefused (format letter (rules_of lines.now) ok) bytes.now r → GivesUnless result (Err r) }
+    ensures refused { (r : Refusal) → IsErrOf result (ReadFault.Refused r) → IsRefused (format_of table.now) bytes.now r }
+    ensures first { (r : Refusal) → IsRefused (format_of table.now) bytes.now r → GivesUnless result (Err r) }
 {
-    read_rows(alloc, letter, lines, bytes)
+    read_rows(alloc, table.letter, table.lines, bytes)
 }
 
 fn read_rows(
@@ -44,8 +39,9 @@ fn read_rows(
     lines: &[Line],
     bytes: &[u8],
 ) -> Result<Items<Row>, ReadFault>
-    requires { length bytes.now < 2 ^ 32 - 1 }
-    ensures { (ok : AreWords (rules_of lines.now)) → GivesText (map numbers) result (text_read (format letter (rules_of lines.now) ok) bytes.now) }
+    requires words { AreWords (rules_of lines.now) }
+    requires short { length bytes.now < 2 ^ 32 - 1 }
+    ensures { GivesText (map numbers) result (text_read (format letter (rules_of lines.now)) bytes.now) }
 {
     let mut left = Lines::of(bytes);
     let mut found = Items::new(alloc);
@@ -73,7 +69,8 @@ fn take_row(
     text: &[u8],
     number: u32,
 ) -> Result<(Row, Spot), ReadFault>
-    ensures { (ok : AreWords (rules_of lines.now)) → GivesStep result (step (format letter (rules_of lines.now) ok) spot number text.now) }
+    requires { AreWords (rules_of lines.now) }
+    ensures { GivesStep result (step (format letter (rules_of lines.now)) spot number text.now) }
 {
     match read_row(alloc, lines, spot, text) {
         Ok(found) => Ok(found),
@@ -95,7 +92,7 @@ fn finish(
     number: u32,
     is_finished: bool,
 ) -> Result<Items<Row>, ReadFault>
-    ensures { (rules : List Rule) (ok : AreWords rules) (rest : List ℕ) → is_finished ≡ is_over (rest ∷ []) → GivesText (map numbers) result (finished (format letter rules ok) spot (map numbers found) number rest) }
+    ensures { (rules : List Rule) (rest : List ℕ) → is_finished ≡ is_over (rest ∷ []) → GivesText (map numbers) result (finished (format letter rules) spot (map numbers found) number rest) }
 {
     match spot {
         Spot::Start | Spot::Body { .. } => Err(ReadFault::Refused(refusal(letter, 4, number))),

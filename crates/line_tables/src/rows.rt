@@ -23,7 +23,8 @@ pub(crate) fn read_row(
     spot: Spot,
     text: &[u8],
 ) -> Result<(Row, Spot), LineFault>
-    ensures exact { (ok : AreWords (rules_of lines.now)) → GivesLine (λ found. numbers found.0) result (form_read (form_in (rules_of lines.now) ok spot) (pieces 32 text.now)) }
+    requires { AreWords (rules_of lines.now) }
+    ensures exact { GivesLine (λ found. numbers found.0) result (form_read (form_in (rules_of lines.now) spot) (pieces 32 text.now)) }
     ensures leads { IfOk result (λ found. found.1 ≡ leads (rules_of lines.now) spot (numbers found.0)) }
 {
     let mut fields = Fields::of(text);
@@ -39,7 +40,8 @@ fn row_of(
     spot: Spot,
     fields: &mut Fields<'_>,
 ) -> Result<(Row, Spot), LineFault>
-    ensures exact { (ok : AreWords (rules_of lines.now)) → GivesLine (λ found. numbers found.0) result (read_line (line_form (rules_of lines.now) ok spot) fields.old) }
+    requires { AreWords (rules_of lines.now) }
+    ensures exact { GivesLine (λ found. numbers found.0) result (read_line (line_form (rules_of lines.now) spot) fields.old) }
     ensures leads { IfOk result (λ found. found.1 ≡ leads (rules_of lines.now) spot (numbers found.0)) }
 {
     let (at, line) = take_word(fields, lines)?;

@@ -3,6 +3,13 @@ ghost use Rattle.line_tables.specs.Tables.{rule_at, rules_of};
 
 use sqlite_items::Items;
 
+/// A format: its lines, and the letter of its rules of refusal.
+#[derive(Clone, Copy, Debug)]
+pub struct LineTable {
+    pub letter: u8,
+    pub lines: &'static [Line],
+}
+
 /// A line of a table.
 #[derive(Clone, Copy, Debug)]
 pub struct Line {

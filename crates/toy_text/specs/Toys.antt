@@ -1,6 +1,5 @@
 -- Lists of numbers, nested: a small format with the parts that formats have, by its table.
 use Rattle.std.specs.Prelude.{List, [], ◌∷◌, codes}
-use Rattle.std.proofs.Common.{refl}
 use Rattle.whole.specs.declared.answers.Refusal.{Refusal}
 use Rattle.text_machine.specs.Texts.{Format}
 use Rattle.line_tables.specs.declared.spots.Spot.{Spot}
@@ -20,4 +19,4 @@ rules =
 
 -- its rules of refusal are T1 to T4
 abbrev pub toy : Format Spot Refusal
-toy = format 84 rules refl
+toy = format 84 rules

@@ -11,49 +11,51 @@ mod tests;
 
 ghost use Rattle.std.specs.Prelude.{◌≡◌, ◌<◌, ◌-◌, ◌^◌, ◌⊎◌, ◌++◌, ◌∷◌, [], ℕ, List, map, length, Ok, Err, IfOk, IsErrOf};
 ghost use Rattle.whole.specs.declared.answers.Refusal.{Refusal};
-ghost use Rattle.text_lines.specs.Pieces.{pieces, text};
+ghost use Rattle.text_lines.specs.Pieces.{pieces};
 ghost use Rattle.text_lines.specs.Steps.{GivesUnless};
-ghost use Rattle.text_machine.specs.Texts.{Table, GivesText, spell_lines};
-ghost use Rattle.line_tables.specs.declared.spots.Spot.{Spot};
-ghost use Rattle.line_tables.specs.Tables.{AreRows, IsRefused, IsText, numbers, text_fed, text_read};
+ghost use Rattle.text_machine.specs.Texts.{Table, GivesText};
+ghost use Rattle.line_tables.specs.Tables.{AreRows, IsRefused, IsText, numbers, text_fed, text_of, text_read};
 ghost use Rattle.toy_text.specs.Toys.{toy};
 
-use line_tables::{Item, Line, Place, Row, print, read, texts_are_told_apart};
+use line_tables::{Item, Line, LineTable, Place, Row, print, read, texts_are_told_apart};
 use sqlite_items::Items;
 use std::alloc::Global;
 use whole::{NoMemory, ReadFault};
 
-/// The lines of a toy.
-pub const LINES: [Line; 5] = [
-    Line {
-        word: "toy",
-        items: &[Item::Natural(1, 2)],
-        place: Place::Header,
-    },
-    Line {
-        word: "list",
-        items: &[Item::Wholes(9)],
-        place: Place::Within { since: 1 },
-    },
-    Line {
-        word: "open",
-        items: &[],
-        place: Place::Opens {
-            since: 2,
-            deepest: 9,
+/// The table of toys.
+pub const TOY: LineTable = LineTable {
+    letter: b'T',
+    lines: &[
+        Line {
+            word: "toy",
+            items: &[Item::Natural(1, 2)],
+            place: Place::Header,
         },
-    },
-    Line {
-        word: "close",
-        items: &[],
-        place: Place::Closes,
-    },
-    Line {
-        word: "end",
-        items: &[],
-        place: Place::Ends,
-    },
-];
+        Line {
+            word: "list",
+            items: &[Item::Wholes(9)],
+            place: Place::Within { since: 1 },
+        },
+        Line {
+            word: "open",
+            items: &[],
+            place: Place::Opens {
+                since: 2,
+                deepest: 9,
+            },
+        },
+        Line {
+            word: "close",
+            items: &[],
+            place: Place::Closes,
+        },
+        Line {
+            word: "end",
+            items: &[],
+            place: Place::Ends,
+        },
+    ],
+};
 
 /// The rows of the toy whose text the bytes are; where they are no such text, the first rule that they break: T1 a line of
 /// another form, T2 a number past `2^127 - 1`, T3 a line that may not stand there or bytes behind the end, T4 a missing
@@ -69,7 +71,7 @@ pub fn read_toy(alloc: Global, bytes: &[u8]) -> Result<Items<Row>, ReadFault>
     ensures refused { (r : Refusal) → IsErrOf result (ReadFault.Refused r) → IsRefused toy bytes.now r }
     ensures first { (r : Refusal) → IsRefused toy bytes.now r → GivesUnless result (Err r) }
 {
-    read(alloc, b'T', &LINES, bytes)
+    read(alloc, &TOY, bytes)
 }
 
 /// The one text of the rows of a whole toy.
@@ -77,7 +79,7 @@ pub fn print_toy(alloc: Global, rows: &[Row]) -> Result<Vec<u8>, NoMemory>
     requires { AreRows toy (map numbers rows.now) }
     ensures { IfOk result (λ bytes. IsText toy bytes.items (map numbers rows.now)) }
 {
-    print(alloc, b'T', &LINES, rows)
+    print(alloc, &TOY, rows)
 }
 
 /// A text is that of one table or has one first refusal: one of the two, and not both. What is read of a text is what is
@@ -88,7 +90,7 @@ pub fn toys_are_told_apart()
     ensures not_both { (bytes : List ℕ) (t : Table) (r : Refusal) → IsRefused toy bytes r → IsText toy bytes t → ⊥ }
     ensures fed { (bytes rest : List ℕ) (lines : List (List ℕ)) → pieces 10 bytes ≡ lines ++ rest ∷ [] → text_read toy bytes ≡ text_fed toy lines rest }
     ensures either { (bytes : List ℕ) → ((t : Table) × IsText toy bytes t) ⊎ ((r : Refusal) × IsRefused toy bytes r) }
-    ensures printed { (t : Table) → AreRows toy t → IsText toy (text (spell_lines toy Spot.Start t)) t }
+    ensures printed { (t : Table) → AreRows toy t → IsText toy (text_of toy t) t }
 {
     texts_are_told_apart();
 }
