@@ -1,5 +1,5 @@
 -- A format as a table of lines: the word of each, what stands behind it, where it may stand and where it leads.
-use Rattle.std.specs.Prelude.{◌≡◌, ℕ, ◌+◌, ◌-◌, nat_eq, nat_le, nat_lt, ℤ, pos, unsigned_abs, Bool, true, false, ◌&&◌, if◌then◌else◌, List, [], ◌∷◌, ◌++◌, map, length, Option, None, Some, Result, Ok}
+use Rattle.std.specs.Prelude.{◌≡◌, ◌⊎◌, ℕ, ◌+◌, ◌-◌, nat_eq, nat_le, nat_lt, ℤ, pos, unsigned_abs, Bool, true, false, ◌&&◌, if◌then◌else◌, List, [], ◌∷◌, ◌++◌, map, length, Option, None, Some, Result, Ok}
 use Rattle.std.proofs.Common.{get_or, refl}
 use Rattle.std.specs.List.{list_all}
 use Rattle.std.specs.Fmt.{signed_decimal}
@@ -139,6 +139,10 @@ IsText f bytes table = IsTextOf f Start bytes table
 
 abbrev pub IsRefused : Format Spot Refusal → List ℕ → Refusal → Type 0
 IsRefused f bytes r = FirstRefused f Start 1 (pieces 10 bytes) r
+
+-- one of the two
+unfoldable pub IsTextOrRefused : Format Spot Refusal → List ℕ → Type 0
+IsTextOrRefused f bytes = ((table : Table) × IsText f bytes table) ⊎ ((r : Refusal) × IsRefused f bytes r)
 
 abbrev pub text_read : Format Spot Refusal → List ℕ → Result Table Refusal
 text_read f bytes = read_text f Start bytes

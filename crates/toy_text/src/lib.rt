@@ -9,12 +9,12 @@
 #[cfg(test)]
 mod tests;
 
-ghost use Rattle.std.specs.Prelude.{◌≡◌, ◌<◌, ◌-◌, ◌^◌, ◌⊎◌, ◌++◌, ◌∷◌, [], ℕ, List, map, length, Ok, Err, IfOk, IsErrOf};
+ghost use Rattle.std.specs.Prelude.{◌≡◌, ◌<◌, ◌-◌, ◌^◌, ◌++◌, ◌∷◌, [], ℕ, List, map, length, Ok, Err, IfOk, IsErrOf};
 ghost use Rattle.whole.specs.declared.answers.Refusal.{Refusal};
 ghost use Rattle.text_lines.specs.Pieces.{pieces};
 ghost use Rattle.text_lines.specs.Steps.{GivesUnless};
 ghost use Rattle.text_machine.specs.Texts.{Table, GivesText};
-ghost use Rattle.line_tables.specs.Tables.{AreRows, IsRefused, IsText, numbers, text_fed, text_of, text_read};
+ghost use Rattle.line_tables.specs.Tables.{AreRows, IsRefused, IsText, IsTextOrRefused, numbers, text_fed, text_of, text_read};
 ghost use Rattle.toy_text.specs.Toys.{toy};
 
 use line_tables::{Item, Line, LineTable, Place, Row, print, read, texts_are_told_apart};
@@ -89,7 +89,7 @@ pub fn toys_are_told_apart()
     ensures one_refusal { (bytes : List ℕ) (r s : Refusal) → IsRefused toy bytes r → IsRefused toy bytes s → r ≡ s }
     ensures not_both { (bytes : List ℕ) (t : Table) (r : Refusal) → IsRefused toy bytes r → IsText toy bytes t → ⊥ }
     ensures fed { (bytes rest : List ℕ) (lines : List (List ℕ)) → pieces 10 bytes ≡ lines ++ rest ∷ [] → text_read toy bytes ≡ text_fed toy lines rest }
-    ensures either { (bytes : List ℕ) → ((t : Table) × IsText toy bytes t) ⊎ ((r : Refusal) × IsRefused toy bytes r) }
+    ensures either { (bytes : List ℕ) → IsTextOrRefused toy bytes }
     ensures printed { (t : Table) → AreRows toy t → IsText toy (text_of toy t) t }
 {
     texts_are_told_apart();
