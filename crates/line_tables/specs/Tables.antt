@@ -147,6 +147,10 @@ IsTextOrRefused f bytes = ((table : Table) × IsText f bytes table) ⊎ ((r : Re
 abbrev pub text_read : Format Spot Refusal → List ℕ → Result Table Refusal
 text_read f bytes = read_text f Start bytes
 
+-- the bytes are cut into these lines and a rest
+abbrev pub AreLines : List ℕ → List (List ℕ) → List ℕ → Type 0
+AreLines bytes lines rest = pieces 10 bytes ≡ lines ++ rest ∷ []
+
 -- these lines, fed one after another, and then the rest
 abbrev pub text_fed : Format Spot Refusal → List (List ℕ) → List ℕ → Result Table Refusal
 text_fed f lines rest = feed f Start 1 lines >>= λ y. finish f y.1 (1 + length lines) rest >>= λ more. Ok (y.0 ++ more)

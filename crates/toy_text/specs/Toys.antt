@@ -7,7 +7,7 @@ use Rattle.line_tables.specs.declared.tables.Item.TheVariants.{Natural, Wholes}
 use Rattle.line_tables.specs.declared.tables.Place.TheVariants.{Header, Within, Opens, Closes, Ends}
 use Rattle.line_tables.specs.Tables.{Rule, rule, format}
 
--- the version; how many numbers, up to 9, and the numbers; parts, in version 2 alone, at most 9 within one another
+-- the version; up to 9 numbers behind their count; parts in version 2, at most 9 within one another
 abbrev pub rules : List Rule
 rules =
     rule (codes "toy") (Natural 1 2 ∷ []) Header
