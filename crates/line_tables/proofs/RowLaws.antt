@@ -1,5 +1,5 @@
 -- A row is read and printed by the table.
-use Rattle.std.proofs.Common.{◌≡◌, ◌⊎◌, inl, inr, ℕ, zero, suc, ◌+◌, ℤ, pos, unsigned_abs, Bool, true, false, cond, Option, None, Some, Result, Ok, Err, List, [], ◌∷◌, map, get_or, refl, sym, ap, subst, ◌∙◌}
+use Rattle.std.proofs.Common.{◌≡◌, ◌⊎◌, inl, inr, ℕ, zero, suc, ◌+◌, ℤ, pos, unsigned_abs, Bool, true, false, cond, None, Some, Result, Ok, Err, List, [], ◌∷◌, map, get_or, refl, sym, ap, subst, ◌∙◌}
 use Rattle.std.proofs.Math.Bool.{Bool-set}
 use Rattle.std.specs.Fmt.{signed_decimal}
 use Rattle.std.specs.List.{list_all, position}
@@ -18,7 +18,7 @@ use Rattle.line_tables.specs.declared.tables.Line.{Line}
 use Rattle.line_tables.specs.declared.tables.Row.{Row}
 use Rattle.line_tables.specs.declared.spots.Spot.{Spot}
 use Rattle.line_tables.specs.declared.spots.Spot.TheVariants.{Start, Body, Done}
-use Rattle.line_tables.specs.Tables.{Rule, rule, rule_at, rules_of, words, AreWords, form_of, may_stand, leads_by, form_at, line_with, line_by, line_form, form_in, leads, format, numbers, row_items, row_texts}
+use Rattle.line_tables.specs.Tables.{Rule, rule_at, rules_of, words, AreWords, form_of, may_stand, leads_by, form_at, line_with, line_by, line_form, form_in, leads, format, numbers, row_items, row_texts}
 use Rattle.line_tables.proofs.ItemLaws.{kinds_spelled}
 
 -- ---- the word of a line

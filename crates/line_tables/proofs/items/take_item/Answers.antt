@@ -1,10 +1,8 @@
-use Rattle.std.proofs.Common.{◌∷◌, ◌∙◌, unsigned_abs}
+use Rattle.std.proofs.Common.{◌∙◌, unsigned_abs}
 use Rattle.std.proofs.lemmas.Result.{err_from_is_err_and}
-use Rattle.text_machine.specs.Items.{natural, whole}
-use Rattle.text_machine.specs.Lines.{number, times, read_line}
-use Rattle.line_tables.specs.declared.tables.Item.{Item}
+use Rattle.text_machine.specs.Items.{whole}
+use Rattle.text_machine.specs.Lines.{times}
 use Rattle.line_tables.specs.Tables.{form_of}
-use Rattle.line_tables.specs.Given.{onto}
 use Rattle.line_tables.proofs.ItemLaws.{fails_along, as_natural, as_whole, as_wholes}
 use Rattle.line_tables.proofs.items.take_item.Goals as goal
 

@@ -1,4 +1,4 @@
-use Rattle.std.proofs.Common.{[], ◌∷◌, ◌++◌, ◌∙◌, ap, List, ℕ, map, string_bytes}
+use Rattle.std.proofs.Common.{[], ◌++◌, ◌∙◌, ap, List, ℕ, map, string_bytes}
 use Rattle.std.specs.Fmt.{signed_decimal}
 use Rattle.text_lines.proofs.PieceLaws.{line_is_ended, text_of_one}
 use Rattle.line_tables.specs.Tables.{row_items, rule_at, rules_of}
