@@ -44,15 +44,23 @@ item_fault e fault read is failed = subst (λ (d : LineFault). FailsLine d read)
 
 -- ---- the text ends behind its last line
 
-pub whole_at_end : (letter : ℕ) (rules : List Rule) (front : Table) (k : ℕ) (rest : List ℕ) → is_over (rest ∷ []) ≡ true → finished (format letter rules) Done front k rest ≡ Ok front
+pub whole_at_end : (letter : ℕ) (rules : List Rule) (s : Spot) (front : Table) (k : ℕ) (rest : List ℕ) (over : Bool) → s ≡ Done → over ≡ true → over ≡ is_over (rest ∷ []) → finished (format letter rules) s front k rest ≡ Ok front
 unfolding finish is_over
-whole_at_end letter rules front k [] e = ap (λ (ts : Table). Ok ts) (append-nil front)
-whole_at_end letter rules front k (b ∷ rest) e = absurd (cc)
+whole_at_end letter rules s front k rest over done all is = ap (λ (t : Spot). finished (format letter rules) t front k rest) done ∙ by_rest rest (sym is ∙ all)
+  where
+    by_rest : (left : List ℕ) → is_over (left ∷ []) ≡ true → finished (format letter rules) Done front k left ≡ Ok front
+    by_rest [] e = ap (λ (ts : Table). Ok ts) (append-nil front)
+    by_rest (b ∷ left) e = absurd (cc)
 
-pub more_at_end : (letter : ℕ) (rules : List Rule) (front : Table) (k : ℕ) (rest : List ℕ) → is_over (rest ∷ []) ≡ false → finished (format letter rules) Done front k rest ≡ Err (refusal letter 3 k)
+pub more_at_end : (letter : ℕ) (rules : List Rule) (s : Spot) (front : Table) (k : ℕ) (rest : List ℕ) (over : Bool) (r : Refusal) → s ≡ Done → over ≡ false → over ≡ is_over (rest ∷ []) → r ≡ refusal letter 3 k
+    → finished (format letter rules) s front k rest ≡ Err r
 unfolding finish is_over
-more_at_end letter rules front k [] e = absurd (cc)
-more_at_end letter rules front k (b ∷ rest) e = refl
+more_at_end letter rules s front k rest over r done some is refused =
+    ap (λ (t : Spot). finished (format letter rules) t front k rest) done ∙ by_rest rest (sym is ∙ some) ∙ ap (λ (q : Refusal). Err q) (sym refused)
+  where
+    by_rest : (left : List ℕ) → is_over (left ∷ []) ≡ false → finished (format letter rules) Done front k left ≡ Err (refusal letter 3 k)
+    by_rest [] e = absurd (cc)
+    by_rest (b ∷ left) e = refl
 
 -- ---- all lines are read
 

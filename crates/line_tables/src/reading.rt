@@ -60,7 +60,6 @@ fn read_rows(
 }
 
 /// What line `number` says, and where the next one stands.
-#[tactic(auto, using(crate::proofs::TextLaws::line_read, crate::proofs::TextLaws::line_refused))]
 fn take_row(
     alloc: Global,
     letter: u8,
@@ -84,7 +83,7 @@ fn take_row(
 }
 
 /// The rows that were found, where the text ends in line `number`.
-#[tactic(auto, using(crate::proofs::TextLaws::whole_at_end, crate::proofs::TextLaws::more_at_end), unfolding(text_machine::specs::Texts::finish))]
+#[tactic(auto, unfolding(text_machine::specs::Texts::finish))]
 fn finish(
     letter: u8,
     spot: Spot,
