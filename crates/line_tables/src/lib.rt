@@ -2,7 +2,8 @@
 //! it may stand and where it leads. What reads and prints texts is the same for every table, and so are its laws: a text is
 //! that of one list of rows or has one first refusal, and not both.
 //!
-//! A table is an instance of the text machine (`text_machine`): its states are the spots of `specs/Tables`.
+//! A table is an instance of the text machine (`text_machine`): its states are the `Spot`s, and `format` of
+//! `specs/Tables` says what follows which.
 #![tactic(auto)]
 
 mod items;
