@@ -27,6 +27,7 @@ use Rattle.clause_search.specs.Opened.{IsOfCourse}
 use Rattle.clause_search.specs.Steps.{Chooses, IfFree, IsAllowedStop, IsComplete, IsDeciding, IsPaused, IsPropagating, IsRefuted, Steps}
 use Rattle.clause_search.specs.Tables.{NameAll}
 use Rattle.clause_search.proofs.LiteralLaws.{below_has, settled_at, settled_back, settled_front}
+use Rattle.clause_search.proofs.StandingLaws.{first_has}
 use Rattle.clause_search.proofs.TrailLaws.{get_either, known_below}
 use Rattle.clause_search.proofs.JournalLaws.{reaches_of}
 
@@ -131,8 +132,8 @@ pub wish_free : {S : Type 0} (R : Relations S) (c : Clauses) (s : S) (course : C
     → IsDeciding R c s course seen n wish → IfFree course.trail wish
 wish_free R c s course seen n None d = tt
 wish_free R c s course seen n (Some l) ((at, moved), settled, wished) = (
-  subst (λ (a : ℕ). l.atom < a) (sym at.atoms) (in_range c course.lemmas l (known_below (rows_of c) c.clauses course.lemmas at.underway.formed.in_range at.underway.follow) wished.number wished.clause wished.is wished.has),
-  wished.off,
+  subst (λ (a : ℕ). l.atom < a) (sym at.atoms) (in_range c course.lemmas l (known_below (rows_of c) c.clauses course.lemmas at.underway.formed.in_range at.underway.follow) wished.number wished.clause wished.is (first_has (literals course.trail.entries) l wished.clause wished.first)),
+  wished.first.off,
 )
 
 pub complete : {S : Type 0} (R : Relations S) (c : Clauses) (s : S) (course : Course) (seen : TheoryView S) (n : Counts) (wish : Option Lit)
@@ -185,12 +186,6 @@ found_until R c may stop seen n (until.Stopped journal) is = (is.0, is.1.1)
 found_until R c may stop seen n (until.Found answer) is = is
 
 -- ---- totals
-
-opposite_truth : (a b : Bool) → (a ≡ b → ⊥) → a ≡ not b
-opposite_truth true true ne = absurd (ne refl)
-opposite_truth true false ne = refl
-opposite_truth false true ne = refl
-opposite_truth false false ne = absurd (ne refl)
 
 same_truth : (a b : Bool) → (a ≡ b) ⊎ (a ≡ not b)
 same_truth true true = inl refl

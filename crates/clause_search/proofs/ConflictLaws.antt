@@ -307,12 +307,12 @@ in_cut R c s trail lemmas seen Told e owes taught = absurd (cc)
 in_cut R c s trail lemmas seen Checked e owes taught = absurd (cc)
 in_cut R c s trail lemmas seen Cut e owes taught = (owes, refl, taught)
 
-pub cut_stage : {S : Type 0} (R : Relations S) (c : Clauses) (s : S) (old new : Course) (seen seen' : TheoryView S) (n n' : Counts) (lemma : Lemma) (keep : ℕ)
-    → IsCutting R c s old.trail old.lemmas old.journal.moves seen n lemma keep → Cutting old lemma keep new → seen'.told ≡ take keep seen.told
+pub cut_stage : {S : Type 0} (R : Relations S) (c : Clauses) (s : S) (old new : Course) (seen seen' : TheoryView S) (n n' : Counts) (lemma : Lemma)
+    (keep number : ℕ) → IsCutting R c s old.trail old.lemmas old.journal.moves seen n lemma keep → Cutting old lemma keep number new → seen'.told ≡ take keep seen.told
     → R.after_undo seen.state keep seen'.state → seen'.rows ≡ seen.rows → seen'.rest ≡ seen.rest
     → seen'.owes ≡ (if nat_lt keep (length seen.told) then false else seen.owes) → n' ≡ conflict_noted n
     → IsStage R c s new.trail new.lemmas new.journal.moves new.phase seen' n'
-cut_stage {S} R c s old new seen seen' n n' lemma keep jump cutting told state rows rest owes counted =
+cut_stage {S} R c s old new seen seen' n n' lemma keep number jump cutting told state rows rest owes counted =
     subst (λ (m : Counts). IsStage R c s new.trail new.lemmas new.journal.moves new.phase seen' m) (sym counted) (record {
       last = cut;
       atoms = ap (λ (v : View). v.atoms) cutting.trail ∙ jump.atoms;
@@ -334,9 +334,10 @@ less_cut_at : (limit limit' spent spent' t t' w' keep work : ℕ) → limit' ≡
     → 2 * (2 * (limit - spent) + t) ≤ work → 2 * (2 * (limit' - spent') + t') + w' < work
 less_cut_at limit limit' spent spent' t t' w' keep work a b c d e f = omega arith
 
-pub cut_less : (old new : Course) (n n' : Counts) (lemma : Lemma) (keep work : ℕ) → keep < length old.trail.entries → Cutting old lemma keep new
+pub cut_less : (old new : Course) (n n' : Counts) (lemma : Lemma) (keep number work : ℕ) → keep < length old.trail.entries
+    → Cutting old lemma keep number new
     → n' ≡ conflict_noted n → work_at_clash old n ≤ work → work_left new n' < work
-cut_less old new n n' lemma keep work within cutting counted most =
+cut_less old new n n' lemma keep number work within cutting counted most =
     less_cut_at n.limit n'.limit (spent n) (spent n') (length old.trail.entries) (length new.trail.entries) (weight new.phase) keep work (ap (λ (m : Counts). m.limit) counted) (ap (λ (m : Counts). spent m) counted) (ap (λ (v : View). length v.entries) cutting.trail ∙ length_take old.trail.entries keep (omega arith)) within (ap weight cutting.phase) most
 
 -- what a cut needs before it

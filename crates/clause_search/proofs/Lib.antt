@@ -2,10 +2,13 @@ pub mod LiteralLaws
 pub mod TableLaws
 pub mod StandingLaws
 pub mod TrailLaws
+pub mod AgendaLaws
+pub mod CursorLaws
 pub mod JournalLaws
 pub mod CourseLaws
 pub mod SolutionLaws
 pub mod StartLaws
 pub mod ConflictLaws
+pub mod UpkeepLaws
 pub mod AnswerLaws
 pub mod ExampleLaws

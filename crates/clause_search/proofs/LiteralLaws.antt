@@ -53,11 +53,6 @@ has_atom l [] h = absurd h
 has_atom l (x ∷ xs) (inl e) = inl (sym (ap (λ (m : Lit). m.atom) e))
 has_atom l (x ∷ xs) (inr h) = inr (has_atom l xs h)
 
-pub atom_has : (a : ℕ) (xs : List Lit) → HasAtom a xs → (b : Bool) × Has (record { atom = a; positive = b }) xs
-atom_has a [] h = absurd h
-atom_has a (x ∷ xs) (inl e) = (x.positive, inl (ap (lit_of x.positive) (sym e)))
-atom_has a (x ∷ xs) (inr h) = let rest = atom_has a xs h in (rest.0, inr rest.1)
-
 pub below_has : (n : ℕ) (l : Lit) (xs : List Lit) → Below n xs → Has l xs → l.atom < n
 below_has n l [] b h = absurd h
 below_has n l (x ∷ xs) b (inl e) = subst (λ (a : ℕ). a < n) (sym (ap (λ (m : Lit). m.atom) e)) b.0
@@ -86,10 +81,6 @@ pub once_front : (n : ℕ) (xs ys : List Lit) → NamesOnce n (xs ++ ys) → Nam
 once_front n [] ys once = tt
 once_front n (x ∷ xs) ys once = (once.0, λ h. once.1 (atom_front x.atom xs ys h), once_front n xs ys once.2)
 
-pub last_in_range : (n : ℕ) (xs : List Lit) (l : Lit) → NamesOnce n (xs ++ l ∷ []) → l.atom < n
-last_in_range n [] l once = once.0
-last_in_range n (x ∷ xs) l once = last_in_range n xs l once.2
-
 atom_take : (a k : ℕ) (xs : List Lit) → HasAtom a (take k xs) → HasAtom a xs
 atom_take a zero [] h = absurd h
 atom_take a zero (x ∷ xs) h = absurd h
@@ -117,14 +108,6 @@ opposite n (x ∷ xs) l once (inl e) (inl f) = not_its_own l.positive (ap (λ (m
 opposite n (x ∷ xs) l once (inl e) (inr k) = once.1 (subst (λ (a : ℕ). HasAtom a xs) (ap (λ (m : Lit). m.atom) e) (has_atom (negation l) xs k))
 opposite n (x ∷ xs) l once (inr h) (inl f) = once.1 (subst (λ (a : ℕ). HasAtom a xs) (ap (λ (m : Lit). m.atom) f) (has_atom l xs h))
 opposite n (x ∷ xs) l once (inr h) (inr k) = opposite n xs l once.2 h k
-
--- a list of one truth for each atom has no other
-pub once_same : (n : ℕ) (xs : List Lit) (l m : Lit) → NamesOnce n xs → Has l xs → Has m xs → l.atom ≡ m.atom → l ≡ m
-once_same n [] l m once h k e = absurd h
-once_same n (x ∷ xs) l m once (inl p) (inl q) e = p ∙ sym q
-once_same n (x ∷ xs) l m once (inl p) (inr k) e = absurd (once.1 (subst (λ (a : ℕ). HasAtom a xs) (sym e ∙ ap (λ (o : Lit). o.atom) p) (has_atom m xs k)))
-once_same n (x ∷ xs) l m once (inr h) (inl q) e = absurd (once.1 (subst (λ (a : ℕ). HasAtom a xs) (e ∙ ap (λ (o : Lit). o.atom) q) (has_atom l xs h)))
-once_same n (x ∷ xs) l m once (inr h) (inr k) e = once_same n xs l m once.2 h k e
 
 -- ---- false literals
 

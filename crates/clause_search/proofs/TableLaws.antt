@@ -140,7 +140,7 @@ retract_view items less truths value a view e =
 
 -- ---- cuts
 
-pub take_less : (es : List Entry) (keep n : ℕ) → keep ≤ n → take keep (take n es) ≡ take keep es
+pub take_less : {T : Type 0} (es : List T) (keep n : ℕ) → keep ≤ n → take keep (take n es) ≡ take keep es
 take_less [] zero zero h = refl
 take_less [] zero (suc n) h = refl
 take_less [] (suc keep) zero h = absurd (omega arith)
@@ -148,13 +148,7 @@ take_less [] (suc keep) (suc n) h = refl
 take_less (e ∷ es) zero zero h = refl
 take_less (e ∷ es) zero (suc n) h = refl
 take_less (e ∷ es) (suc keep) zero h = absurd (omega arith)
-take_less (e ∷ es) (suc keep) (suc n) h = ap (λ (xs : List Entry). e ∷ xs) (take_less es keep n (omega arith))
-
-pub take_whole : (es : List Entry) (keep : ℕ) → length es ≤ keep → take keep es ≡ es
-take_whole [] zero h = refl
-take_whole [] (suc keep) h = refl
-take_whole (e ∷ es) zero h = absurd (omega arith)
-take_whole (e ∷ es) (suc keep) h = ap (λ (xs : List Entry). e ∷ xs) (take_whole es keep (omega arith))
+take_less {T} (e ∷ es) (suc keep) (suc n) h = ap (λ (xs : List T). e ∷ xs) (take_less es keep n (omega arith))
 
 -- ---- a truth of each atom
 

@@ -16,7 +16,7 @@ use Rattle.clause_search.proofs.TableLaws.{take_less}
 
 -- ---- lists
 
-get_front : {T : Type 0} (xs ys : List T) (n : ℕ) (x : T) → slice_get xs n ≡ Some x → slice_get (xs ++ ys) n ≡ Some x
+pub get_front : {T : Type 0} (xs ys : List T) (n : ℕ) (x : T) → slice_get xs n ≡ Some x → slice_get (xs ++ ys) n ≡ Some x
 get_front [] ys n x e = absurd (cc)
 get_front (y ∷ xs) ys zero x e = e
 get_front (y ∷ xs) ys (suc n) x e = get_front xs ys n x e
@@ -36,7 +36,7 @@ get_either [] x (suc n) y e = absurd (cc)
 get_either (z ∷ xs) x zero y e = inl e
 get_either (z ∷ xs) x (suc n) y e = elim (get_either xs x n y e) [ inl before ↦ inl before | inr last ↦ inr (ap suc last.0, last.1) ]
 
-get_take : {T : Type 0} (xs : List T) (n k : ℕ) (x : T) → slice_get (take n xs) k ≡ Some x → (k < n) × (slice_get xs k ≡ Some x)
+pub get_take : {T : Type 0} (xs : List T) (n k : ℕ) (x : T) → slice_get (take n xs) k ≡ Some x → (k < n) × (slice_get xs k ≡ Some x)
 get_take [] zero k x e = absurd (cc)
 get_take [] (suc n) k x e = absurd (cc)
 get_take (y ∷ xs) zero k x e = absurd (cc)
@@ -49,7 +49,7 @@ length_take [] (suc n) h = absurd (omega arith)
 length_take (x ∷ xs) zero h = refl
 length_take (x ∷ xs) (suc n) h = ap suc (length_take xs n (omega arith))
 
-take_all : {T : Type 0} (xs ys : List T) → take (length xs) (xs ++ ys) ≡ xs
+pub take_all : {T : Type 0} (xs ys : List T) → take (length xs) (xs ++ ys) ≡ xs
 take_all [] [] = refl
 take_all [] (y ∷ ys) = refl
 take_all {T} (x ∷ xs) ys = ap (λ (zs : List T). x ∷ zs) (take_all xs ys)

@@ -1,7 +1,10 @@
 pub mod Advices
+pub mod Agendas
 pub mod Answers
 pub mod Courses
+pub mod Cursors
 pub mod Lessons
+pub mod Upkeep
 pub mod Opened
 pub mod Standings
 pub mod Starts

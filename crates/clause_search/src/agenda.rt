@@ -1,12 +1,15 @@
 // Which clauses to look at next.
-ghost use Rattle.std.specs.Prelude.{◌≡◌, ◌<◌, ◌^◌, length, IfOk, IfSome, vec_len};
-ghost use Rattle.clause_form.specs.Journals.{literals};
+ghost use Rattle.std.specs.Prelude.{◌≡◌, ℕ, ◌<◌, ◌^◌, [], ◌∷◌, ◌++◌, length, false, true, IfOk, IfSome, IfNone, MatchOption, vec_len};
+ghost use Rattle.std.specs.BinaryHeap.{heap_items};
+ghost use Rattle.clause_form.specs.Derivations.{NamesOnce};
+ghost use Rattle.clause_form.specs.Journals.{IsSettled, literals};
 ghost use Rattle.clause_form.specs.WellFormed.{IsWellFormed};
 ghost use Rattle.learned_clause.specs.Trails.{known_with};
+ghost use Rattle.clause_search.specs.Agendas.{Covers, Enters, GivesNone, IsIndexed, Learns, Rouses};
 ghost use Rattle.clause_search.specs.Standings.{Follows, IfStandsAt, IsFalseAt};
 
-use crate::standing::Standing;
-use crate::survey::{how_many, standing_of};
+use crate::occurrences::Occurrences;
+use crate::standing::{Standing, how_many, standing_of};
 use crate::trail::Trail;
 use clause_form::{Atom, Clauses};
 use farkas_cert::{Lemma, Lit};
@@ -37,14 +40,12 @@ struct Waiting {
 }
 
 /// The clauses that a move may have made false or unit. A clause changes so only when one of its
-/// literals becomes false, so the clauses are kept by literal, and no move looks at all of them.
-///
-/// The agenda is advice: each clause is looked at again before its number is handed out, and before
-/// a decision all clauses are (`look_over`).
+/// literals becomes false, so the clauses are kept by literal, and no move looks at all of them: a
+/// clause that is neither in `fresh` nor in `units` is neither false nor unit, and one that is only in
+/// `units` isn't false.
 #[derive(Debug, Drop)]
 pub(crate) struct Agenda {
-    /// By literal, the numbers of the clauses that have it.
-    occurrences: Vec<Vec<u32>>,
+    occurrences: Occurrences,
     /// The clauses of which a literal became false and that weren't looked at since.
     fresh: Vec<u32>,
     /// The clauses that gave a literal when they were looked at.
@@ -57,16 +58,15 @@ impl Agenda {
     /// An agenda with each clause of the problem.
     pub(crate) fn new(alloc: Global, clauses: &Clauses) -> Result<Agenda, NoMemory>
         requires { IsWellFormed clauses.now }
+        ensures indexed { IfOk result (λ agenda. IsIndexed (length clauses.now.atoms) clauses.now.clauses agenda.occurrences.lists.items) }
+        ensures covers { IfOk result (λ agenda. Covers clauses.now.clauses [] agenda.fresh.items (heap_items agenda.units)) }
     {
         let mut agenda = Agenda {
-            occurrences: Vec::new(alloc),
+            occurrences: Occurrences::new(alloc, clauses.atoms.len())?,
             fresh: Vec::new(alloc),
             units: BinaryHeap::new(alloc),
             at_root: true,
         };
-        for _literal in 0..2 * clauses.atoms.len() {
-            agenda.occurrences.push(Vec::new(alloc))?;
-        }
         let count = clauses.clauses.len() as u32;
         for number in 0..count {
             let clause = clauses.clauses.as_slice()[number as usize].as_slice();
@@ -76,11 +76,12 @@ impl Agenda {
     }
 
     /// A literal was put on the trail: the clauses with its negation are looked at next.
-    pub(crate) fn assumed(&mut self, lit: Lit, by: Option<u32>) -> Result<(), NoMemory> {
+    pub(crate) fn assumed(&mut self, lit: Lit, by: Option<u32>) -> Result<(), NoMemory>
+        ensures { IfOk result (λ _. Rouses self.old lit self.new) }
+    {
         self.at_root = self.at_root && by.is_some();
-        if let Some(numbers) = self.occurrences.get(row_of(lit.negated())) {
-            self.fresh.extend_from_slice(numbers.as_slice())?;
-        }
+        self.fresh
+            .extend_from_slice(self.occurrences.with(lit.negated()))?;
         Ok(())
     }
 
@@ -90,21 +91,20 @@ impl Agenda {
         number: u32,
         clause: &[Lit],
         trail: &[Assigned],
-    ) -> Result<(), NoMemory> {
+    ) -> Result<(), NoMemory>
+        ensures { IfOk result (λ _. Learns self.old number clause.now self.new) }
+    {
         self.at_root = trail.iter().all(|entry| entry.by.is_some());
         self.fresh.clear();
         self.units.clear();
         self.enter(number, clause)
     }
 
-    // Keeps the clause's number with each of its literals, and puts it on the agenda.
-    fn enter(&mut self, number: u32, clause: &[Lit]) -> Result<(), NoMemory> {
-        for lit in clause {
-            let row = row_of(*lit);
-            if row < self.occurrences.len() {
-                self.occurrences[row].push(number)?;
-            }
-        }
+    // Lists the clause with each of its literals, and puts it on the agenda.
+    fn enter(&mut self, number: u32, clause: &[Lit]) -> Result<(), NoMemory>
+        ensures { IfOk result (λ _. Enters self.old number clause.now self.new) }
+    {
+        self.occurrences.list(number, clause)?;
         self.fresh.push(number)?;
         Ok(())
     }
@@ -120,38 +120,92 @@ impl Agenda {
         requires { length (known_with clauses.now.clauses lemmas.now) < 2 ^ 32 }
         ensures found { IfOk result (λ found. IfSome found (λ number. IsFalseAt (known_with clauses.now.clauses lemmas.now) (literals trail.now.entries) number)) }
         ensures less { IfOk result (λ found. IfSome found (λ number. vec_len self.new.fresh < vec_len self.old.fresh)) }
+        ensures occurrences { self.new.occurrences ≡ self.old.occurrences }
+        ensures none { IfOk result (λ found. IfNone found (self.new.fresh.items ≡ [])) }
+        ensures covers { (n : ℕ) → NamesOnce n (literals trail.now.entries) → Covers (known_with clauses.now.clauses lemmas.now) (literals trail.now.entries) self.old.fresh.items (heap_items self.old.units)
+            → IfOk result (λ found. IfNone found (Covers (known_with clauses.now.clauses lemmas.now) (literals trail.now.entries) self.new.fresh.items (heap_items self.new.units))) }
     {
         while let Some(number) = self.fresh.pop() {
-            match standing_if(clauses, lemmas, trail, number) {
-                Some(Standing::False) => return Ok(Some(number)),
-                Some(Standing::Unit(lit)) => self
-                    .units
-                    .push(place_of(clauses, self.at_root, lit, number))?,
-                _ => {}
+            if self.look_at(clauses, lemmas, trail, number)? {
+                return Ok(Some(number));
             }
         }
         Ok(None)
     }
 
-    /// The first of the waiting clauses that still gives a literal.
+    // Whether the clause with this number is false. One that gives a literal is kept for `next_unit`.
+    fn look_at(
+        &mut self,
+        clauses: &Clauses,
+        lemmas: &[Lemma],
+        trail: &Trail,
+        number: u32,
+    ) -> Result<bool, NoMemory>
+        requires { length (known_with clauses.now.clauses lemmas.now) < 2 ^ 32 }
+        ensures occurrences { self.new.occurrences ≡ self.old.occurrences }
+        ensures fresh { self.new.fresh ≡ self.old.fresh }
+        ensures found { IfOk result (λ found. found ≡ true → IsFalseAt (known_with clauses.now.clauses lemmas.now) (literals trail.now.entries) number) }
+        ensures covers { (n : ℕ) → NamesOnce n (literals trail.now.entries) → Covers (known_with clauses.now.clauses lemmas.now) (literals trail.now.entries) (self.old.fresh.items ++ number ∷ []) (heap_items self.old.units)
+            → IfOk result (λ found. found ≡ false → Covers (known_with clauses.now.clauses lemmas.now) (literals trail.now.entries) self.new.fresh.items (heap_items self.new.units)) }
+    {
+        let Some(standing) = standing_if(clauses, lemmas, trail, number) else {
+            return Ok(false);
+        };
+        match standing {
+            Standing::False => Ok(true),
+            Standing::Unit(lit) => {
+                self.units
+                    .push(turn_of(clauses, self.at_root, lit, number))?;
+                Ok(false)
+            }
+            Standing::Open(_) => Ok(false),
+            Standing::Satisfied => Ok(false),
+        }
+    }
+
+    /// The first of the waiting clauses that still gives a literal. It goes on waiting: it is true
+    /// when it is looked at again.
     pub(crate) fn next_unit(
         &mut self,
         clauses: &Clauses,
         lemmas: &[Lemma],
         trail: &Trail,
     ) -> Option<Reason>
-        requires { length (known_with clauses.now.clauses lemmas.now) < 2 ^ 32 }
-        ensures { IfSome result (λ reason. Follows (known_with clauses.now.clauses lemmas.now) (literals trail.now.entries) reason.lit reason.by) }
+        requires few { length (known_with clauses.now.clauses lemmas.now) < 2 ^ 32 }
+        requires once { NamesOnce trail.now.atoms (literals trail.now.entries) }
+        requires none { self.old.fresh.items ≡ [] }
+        requires covers { Covers (known_with clauses.now.clauses lemmas.now) (literals trail.now.entries) [] (heap_items self.old.units) }
+        ensures found { MatchOption result (IsSettled (known_with clauses.now.clauses lemmas.now) (literals trail.now.entries))
+            (λ reason. Follows (known_with clauses.now.clauses lemmas.now) (literals trail.now.entries) reason.lit reason.by) }
+        ensures occurrences { self.new.occurrences ≡ self.old.occurrences }
+        ensures covers { Covers (known_with clauses.now.clauses lemmas.now) (literals trail.now.entries) self.new.fresh.items (heap_items self.new.units) }
     {
-        while let Some(waiting) = self.units.pop() {
-            if let Some(Standing::Unit(lit)) = standing_if(clauses, lemmas, trail, waiting.by) {
-                return Some(Reason {
-                    lit,
-                    by: waiting.by,
-                });
+        while let Some(waiting) = self.units.peek() {
+            let by = waiting.by;
+            if let Some(lit) = given(clauses, lemmas, trail, by) {
+                return Some(Reason { lit, by });
             }
+            self.units.pop();
         }
         None
+    }
+}
+
+// The literal that the clause with this number gives.
+fn given(clauses: &Clauses, lemmas: &[Lemma], trail: &Trail, number: u32) -> Option<Lit>
+    requires few { length (known_with clauses.now.clauses lemmas.now) < 2 ^ 32 }
+    requires once { NamesOnce trail.now.atoms (literals trail.now.entries) }
+    ensures { MatchOption result (GivesNone (known_with clauses.now.clauses lemmas.now) (literals trail.now.entries) number)
+        (λ lit. Follows (known_with clauses.now.clauses lemmas.now) (literals trail.now.entries) lit number) }
+{
+    let Some(standing) = standing_if(clauses, lemmas, trail, number) else {
+        return None;
+    };
+    match standing {
+        Standing::Unit(lit) => Some(lit),
+        Standing::Open(_) => None,
+        Standing::Satisfied => None,
+        Standing::False => None,
     }
 }
 
@@ -168,7 +222,9 @@ fn standing_if(clauses: &Clauses, lemmas: &[Lemma], trail: &Trail, number: u32) 
 }
 
 // Where a clause that gives this literal stands among those that wait.
-fn place_of(clauses: &Clauses, at_root: bool, lit: Lit, by: u32) -> Waiting {
+fn turn_of(clauses: &Clauses, at_root: bool, lit: Lit, by: u32) -> Waiting
+    ensures { result.by ≡ by }
+{
     if at_root {
         Waiting {
             is_requirement: by as usize + 1 == clauses.clauses.len(),
@@ -203,9 +259,4 @@ fn terms_of(clauses: &Clauses, form: u32) -> u32 {
         Some(form) => u32::try_from(form.terms.as_slice().len()).unwrap_or(u32::MAX),
         None => 1,
     }
-}
-
-// The row of a literal among the occurrences.
-fn row_of(lit: Lit) -> usize {
-    2 * lit.atom as usize + usize::from(lit.positive)
 }

@@ -3,6 +3,7 @@ ghost use Rattle.std.specs.Prelude.{◌≡◌};
 ghost use Rattle.whole.specs.Budget.{counts};
 ghost use Rattle.clause_form.specs.declared.clauses.Clauses.{Clauses};
 ghost use Rattle.clause_search.specs.Courses.{IsAt, IsDue, MayAssume, MayBeTold, work_left};
+ghost use Rattle.clause_search.specs.Upkeep.{IsCovering, CoveringAsked};
 ghost use Rattle.clause_search.specs.Opened.{charge_of};
 ghost use Rattle.clause_search.specs.Steps.{Asks, LeavesLess};
 
@@ -24,6 +25,7 @@ pub(crate) fn assume<T: Theory>(
 ) -> Heard
     requires { MayBeTold course.old.trail (T.seen theory.old) lit }
     ensures asks { (c : Clauses) (s : T.State) → MayAssume T.relations c s course.old (T.seen theory.old) (counts budget.old) lit by → Asks T.relations c s course.new (T.seen theory.new) (counts budget.new) result }
+    ensures covering { (c : Clauses) → IsCovering c course.old → CoveringAsked c course.new result }
     ensures less { LeavesLess (work_left course.old (counts budget.old)) course.new (counts budget.new) result }
     ensures rows { (T.seen theory.new).rows ≡ (T.seen theory.old).rows }
     ensures limit { budget.new.limit ≡ budget.old.limit }
@@ -51,6 +53,7 @@ fn charge_for(by: Option<u32>) -> Charge
 pub(crate) fn check<T: Theory>(course: &mut Course, theory: &mut T, budget: &mut Budget) -> Heard
     requires { IsDue course.old.phase (T.seen theory.old) }
     ensures asks { (c : Clauses) (s : T.State) → IsAt T.relations c s course.old (T.seen theory.old) (counts budget.old) → Asks T.relations c s course.new (T.seen theory.new) (counts budget.new) result }
+    ensures covering { (c : Clauses) → IsCovering c course.old → CoveringAsked c course.new result }
     ensures less { LeavesLess (work_left course.old (counts budget.old)) course.new (counts budget.new) result }
     ensures rows { (T.seen theory.new).rows ≡ (T.seen theory.old).rows }
     ensures limit { budget.new.limit ≡ budget.old.limit }

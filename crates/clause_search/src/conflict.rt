@@ -3,12 +3,13 @@ ghost use Rattle.std.specs.Prelude.{◌≡◌, ℕ, ◌≤◌};
 ghost use Rattle.whole.specs.Budget.{counts};
 ghost use Rattle.learned_clause.specs.Trails.{known_with};
 ghost use Rattle.clause_search.specs.Courses.{work_at_clash};
+ghost use Rattle.clause_search.specs.Upkeep.{IsKeptAt, CoveringStep};
 ghost use Rattle.clause_search.specs.Steps.{IsConflict, IsJump, MayJump, Refutes, Steps};
 
 use crate::course::Course;
 use crate::lessons::best_lesson;
+use crate::standing::how_many;
 use crate::step::Step;
-use crate::survey::how_many;
 use clause_form::{Clauses, Theory};
 use farkas_cert::Lemma;
 use learned_clause::{Learned, Start};
@@ -25,7 +26,9 @@ pub(crate) fn conflict<T: Theory>(
     budget: &mut Budget,
     start: Start,
 ) -> Step
-    requires { (s : T.State) × IsConflict T.relations clauses.now s course.old (T.seen theory.old) (counts budget.old) start }
+    requires kept { IsKeptAt clauses.now course.old }
+    requires start { (s : T.State) × IsConflict T.relations clauses.now s course.old (T.seen theory.old) (counts budget.old) start }
+    ensures covering { CoveringStep clauses.now course.new result }
     ensures steps { (s : T.State) → IsConflict T.relations clauses.now s course.old (T.seen theory.old) (counts budget.old) start → (work : ℕ) → work_at_clash course.old (counts budget.old) ≤ work → Steps T.relations clauses.now s work course.new (T.seen theory.new) (counts budget.new) result }
     ensures rows { (T.seen theory.new).rows ≡ (T.seen theory.old).rows }
     ensures limit { budget.new.limit ≡ budget.old.limit }
@@ -75,7 +78,9 @@ fn backjump<T: Theory>(
     lemma: Lemma,
     keep: u32,
 ) -> Step
-    requires { MayJump (known_with clauses.now.clauses course.old.lemmas) (T.seen theory.old) (counts budget.old) keep }
+    requires kept { IsKeptAt clauses.now course.old }
+    requires may { MayJump (known_with clauses.now.clauses course.old.lemmas) (T.seen theory.old) (counts budget.old) keep }
+    ensures covering { (s : T.State) → IsJump T.relations clauses.now s course.old (T.seen theory.old) (counts budget.old) lemma keep → CoveringStep clauses.now course.new result }
     ensures steps { (s : T.State) → IsJump T.relations clauses.now s course.old (T.seen theory.old) (counts budget.old) lemma keep → (work : ℕ) → work_at_clash course.old (counts budget.old) ≤ work → Steps T.relations clauses.now s work course.new (T.seen theory.new) (counts budget.new) result }
     ensures rows { (T.seen theory.new).rows ≡ (T.seen theory.old).rows }
     ensures limit { budget.new.limit ≡ budget.old.limit }

@@ -7,6 +7,7 @@ ghost use Rattle.clause_search.specs.Courses.{move_of};
 ghost use Rattle.clause_search.specs.Opened.{Cutting, IsOpened, Putting};
 
 use crate::agenda::Agenda;
+use crate::cursor::Cursor;
 use crate::trail::Trail;
 use clause_form::Clauses;
 use farkas_cert::{Cert, Journal, Lemma, Lit, Lits, Move};
@@ -25,13 +26,15 @@ pub(crate) enum Phase {
     Cut,
 }
 
-/// The trail, the lemmas and the moves of a search, and the clauses that it looks at next.
+/// The trail, the lemmas and the moves of a search, the clauses that it looks at next, and those that
+/// no decision looks at.
 #[derive(Debug, Drop)]
 pub(crate) struct Course {
     pub(crate) trail: Trail,
     pub(crate) lemmas: Items<Lemma>,
     pub(crate) journal: Journal,
     pub(crate) agenda: Agenda,
+    pub(crate) cursor: Cursor,
     pub(crate) phase: Phase,
 }
 
@@ -48,6 +51,7 @@ impl Course {
                 moves: Items::new(alloc),
             },
             agenda: Agenda::new(alloc, clauses)?,
+            cursor: Cursor::new(alloc),
             phase: Phase::Told,
         })
     }
@@ -61,16 +65,18 @@ impl Course {
         self.journal.moves.push(move_for(lit, by))?;
         self.trail.assume(lit, by)?;
         self.agenda.assumed(lit, by)?;
+        self.cursor.mark()?;
         self.phase = Phase::Told;
         Ok(())
     }
 
     /// Adds the lemma, cuts the trail to this length and writes the move. `number` is the lemma's.
     pub(crate) fn cut(&mut self, lemma: Lemma, keep: u32, number: u32) -> Result<(), NoMemory>
-        ensures { IfOk result (λ _. Cutting self.old lemma keep self.new) }
+        ensures { IfOk result (λ _. Cutting self.old lemma keep number self.new) }
     {
         let clause = lemma.clause.clone()?;
         self.trail.cut(keep as usize);
+        self.cursor.set_back(keep as usize);
         self.agenda
             .learned(number, clause.as_slice(), self.trail.as_slice())?;
         self.journal.moves.push(Move::Conflict(clause, keep))?;
@@ -87,6 +93,7 @@ impl Course {
             lemmas: _,
             journal,
             agenda: _,
+            cursor: _,
             phase: _,
         } = self;
         journal
@@ -100,6 +107,7 @@ impl Course {
             lemmas,
             journal: _,
             agenda: _,
+            cursor: _,
             phase: _,
         } = self;
         lemmas

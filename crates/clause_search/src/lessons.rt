@@ -27,7 +27,8 @@ pub(crate) fn best_lesson(
     requires few { length (known_with clauses.now.clauses lemmas.now) < 2 ^ 32 }
     requires trail { IsTrail (length clauses.now.atoms) (known_with clauses.now.clauses lemmas.now) trail.now.entries }
     requires start { IsFalseStart (rows_of clauses.now) (known_with clauses.now.clauses lemmas.now) (literals trail.now.entries) start }
-    ensures { IfOk result (λ learned. IsLearnedHere (rows_of clauses.now) (known_with clauses.now.clauses lemmas.now) trail.now.entries start learned) }
+    ensures learned { IfOk result (λ learned. IsLearnedHere (rows_of clauses.now) (known_with clauses.now.clauses lemmas.now) trail.now.entries start learned) }
+    ensures occurrences { agenda.new.occurrences ≡ agenda.old.occurrences }
 {
     let mut best = lesson(alloc, clauses, lemmas, trail, start)?;
     'starts: loop {

@@ -9,15 +9,16 @@ mod agenda;
 mod asking;
 mod conflict;
 mod course;
+mod cursor;
 mod found;
 mod guide;
 mod lessons;
 #[cfg(test)]
 mod names;
+mod occurrences;
 mod searching;
 mod standing;
 mod step;
-mod survey;
 #[cfg(test)]
 mod tests;
 mod trail;

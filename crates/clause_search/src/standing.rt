@@ -1,12 +1,15 @@
 // How a clause stands to a trail.
-ghost use Rattle.std.specs.Prelude.{◌≡◌, ◌<◌, List, [], ◌∷◌, ◌++◌, length, slice_get};
+ghost use Rattle.std.specs.Prelude.{◌≡◌, ℕ, ◌<◌, ◌^◌, List, [], ◌∷◌, ◌++◌, length};
 ghost use Rattle.farkas_cert.specs.declared.literals.Lit.{Lit};
-ghost use Rattle.clause_form.specs.Derivations.{HasAtom};
+ghost use Rattle.clause_form.specs.Derivations.{HasAtom, NamesOnce};
 ghost use Rattle.clause_form.specs.Journals.{literals};
-ghost use Rattle.clause_search.specs.Standings.{StandsAs};
+ghost use Rattle.learned_clause.specs.Trails.{known_with};
+ghost use Rattle.clause_search.specs.Standings.{StandsAs, StandsAt};
 
 use crate::trail::Trail;
-use farkas_cert::Lit;
+use clause_form::Clauses;
+use farkas_cert::{Lemma, Lit};
+use learned_clause::known;
 
 /// How a clause stands to a trail.
 #[derive(Clone, Copy, Debug)]
@@ -21,8 +24,29 @@ pub(crate) enum Standing {
     False,
 }
 
-/// How a clause stands to a trail.
-pub(crate) fn judge(trail: &Trail, clause: &[Lit]) -> Standing
+/// How many clauses are known.
+pub(crate) fn how_many(clauses: &Clauses, lemmas: &[Lemma]) -> u32
+    requires { length (known_with clauses.now.clauses lemmas.now) < 2 ^ 32 }
+    ensures { result ≡ length (known_with clauses.now.clauses lemmas.now) }
+{
+    (clauses.clauses.len() + lemmas.len()) as u32
+}
+
+/// How the clause with this number stands to the trail.
+pub(crate) fn standing_of(
+    clauses: &Clauses,
+    lemmas: &[Lemma],
+    trail: &Trail,
+    number: u32,
+) -> Standing
+    requires { number < length (known_with clauses.now.clauses lemmas.now) }
+    ensures { StandsAt (known_with clauses.now.clauses lemmas.now) (literals trail.now.entries) number result }
+{
+    judge(trail, known(clauses, lemmas, number))
+}
+
+// How a clause stands to a trail.
+fn judge(trail: &Trail, clause: &[Lit]) -> Standing
     ensures { StandsAs (literals trail.now.entries) clause.now result }
 {
     let mut standing = Standing::False;
@@ -48,7 +72,7 @@ fn with_literal(trail: &Trail, before: Standing, lit: Lit) -> Standing
 
 // So where the literal is off the trail.
 fn with_free(before: Standing, lit: Lit) -> Standing
-    ensures { (lits front : List Lit) → (HasAtom lit.atom lits → ⊥) → StandsAs lits front before → StandsAs lits (front ++ lit ∷ []) result }
+    ensures { (n : ℕ) (lits front : List Lit) → NamesOnce n lits → (HasAtom lit.atom lits → ⊥) → StandsAs lits front before → StandsAs lits (front ++ lit ∷ []) result }
 {
     match before {
         Standing::False => Standing::Unit(lit),

@@ -1,7 +1,8 @@
 // One step of the search: a conflict, a check, a propagation or a decision, whichever is due first.
-ghost use Rattle.std.specs.Prelude.{◌≡◌, ℕ, ◌≤◌};
+ghost use Rattle.std.specs.Prelude.{◌≡◌, ℕ, ◌≤◌, []};
 ghost use Rattle.whole.specs.Budget.{counts};
 ghost use Rattle.clause_search.specs.Courses.{IsAt, work_left};
+ghost use Rattle.clause_search.specs.Upkeep.{IsCovering, CoveringAsked, CoveringStep, CoveringTurn};
 ghost use Rattle.clause_search.specs.Steps.{Asks, Chooses, IfFree, IsAdvancing, IsDeciding, IsAllowedStop, IsPropagating, LeavesLess, Steps, Turns};
 
 use crate::agenda::Reason;
@@ -9,7 +10,6 @@ use crate::asking::{assume, check};
 use crate::conflict::conflict;
 use crate::course::{Course, Phase};
 use crate::guide::{Advice, Guide};
-use crate::survey::{Survey, look_over};
 use crate::trail::Trail;
 use clause_form::{Clauses, Heard, Theory};
 use farkas_cert::Lit;
@@ -54,7 +54,9 @@ pub(crate) fn take_step<T: Theory, G: Guide<T>>(
     guide: &mut G,
     may_stop: bool,
 ) -> Turn
-    requires { (s : T.State) × IsAt T.relations clauses.now s course.old (T.seen theory.old) (counts budget.old) }
+    requires covering { IsCovering clauses.now course.old }
+    requires at { (s : T.State) × IsAt T.relations clauses.now s course.old (T.seen theory.old) (counts budget.old) }
+    ensures covering { CoveringTurn clauses.now course.new result }
     ensures turns { (s : T.State) → IsAt T.relations clauses.now s course.old (T.seen theory.old) (counts budget.old) → Turns T.relations clauses.now s (IsAllowedStop may_stop (G.stops clauses.now guide.new theory.new)) (work_left course.old (counts budget.old)) course.new (T.seen theory.new) (counts budget.new) result }
     ensures rows { (T.seen theory.new).rows ≡ (T.seen theory.old).rows }
     ensures limit { budget.new.limit ≡ budget.old.limit }
@@ -94,7 +96,9 @@ fn after<T: Theory>(
     budget: &mut Budget,
     heard: Heard,
 ) -> Step
-    requires { (s : T.State) × Asks T.relations clauses.now s course.old (T.seen theory.old) (counts budget.old) heard }
+    requires covering { CoveringAsked clauses.now course.old heard }
+    requires asks { (s : T.State) × Asks T.relations clauses.now s course.old (T.seen theory.old) (counts budget.old) heard }
+    ensures covering { CoveringStep clauses.now course.new result }
     ensures steps { (s : T.State) (work : ℕ) → Asks T.relations clauses.now s course.old (T.seen theory.old) (counts budget.old) heard → LeavesLess work course.old (counts budget.old) heard → Steps T.relations clauses.now s work course.new (T.seen theory.new) (counts budget.new) result }
     ensures rows { (T.seen theory.new).rows ≡ (T.seen theory.old).rows }
     ensures limit { budget.new.limit ≡ budget.old.limit }
@@ -125,7 +129,10 @@ fn advance<T: Theory, G: Guide<T>>(
     guide: &mut G,
     may_stop: bool,
 ) -> Turn
-    requires { (s : T.State) × IsAdvancing T.relations clauses.now s course.old (T.seen theory.old) (counts budget.old) }
+    requires covering { IsCovering clauses.now course.old }
+    requires none { course.old.agenda.fresh.items ≡ [] }
+    requires advancing { (s : T.State) × IsAdvancing T.relations clauses.now s course.old (T.seen theory.old) (counts budget.old) }
+    ensures covering { CoveringTurn clauses.now course.new result }
     ensures turns { (s : T.State) → IsAdvancing T.relations clauses.now s course.old (T.seen theory.old) (counts budget.old) → Turns T.relations clauses.now s (IsAllowedStop may_stop (G.stops clauses.now guide.new theory.new)) (work_left course.old (counts budget.old)) course.new (T.seen theory.new) (counts budget.new) result }
     ensures rows { (T.seen theory.new).rows ≡ (T.seen theory.old).rows }
     ensures limit { budget.new.limit ≡ budget.old.limit }
@@ -136,28 +143,12 @@ fn advance<T: Theory, G: Guide<T>>(
     {
         return Turn::Takes(propagate(alloc, clauses, course, theory, budget, reason));
     }
-    match look_over(clauses, course.lemmas.as_slice(), &course.trail) {
-        Survey::False(number) => {
-            let step = conflict(
-                alloc,
-                clauses,
-                course,
-                theory,
-                budget,
-                Start::Clause(number),
-            );
-            Turn::Takes(step)
-        }
-        Survey::Unit(by, lit) => {
-            let reason = Reason { lit, by };
-            Turn::Takes(propagate(alloc, clauses, course, theory, budget, reason))
-        }
-        Survey::Settled(wish) => {
-            consult(
-                alloc, clauses, course, theory, budget, guide, wish, may_stop,
-            )
-        }
-    }
+    let wish = course
+        .cursor
+        .wish(clauses, course.lemmas.as_slice(), &course.trail);
+    consult(
+        alloc, clauses, course, theory, budget, guide, wish, may_stop,
+    )
 }
 
 /// Puts a literal on the trail that follows from a clause.
@@ -169,7 +160,9 @@ fn propagate<T: Theory>(
     budget: &mut Budget,
     reason: Reason,
 ) -> Step
-    requires { (s : T.State) × IsPropagating T.relations clauses.now s course.old (T.seen theory.old) (counts budget.old) reason.lit reason.by }
+    requires covering { IsCovering clauses.now course.old }
+    requires propagating { (s : T.State) × IsPropagating T.relations clauses.now s course.old (T.seen theory.old) (counts budget.old) reason.lit reason.by }
+    ensures covering { CoveringStep clauses.now course.new result }
     ensures steps { (s : T.State) → IsPropagating T.relations clauses.now s course.old (T.seen theory.old) (counts budget.old) reason.lit reason.by → Steps T.relations clauses.now s (work_left course.old (counts budget.old)) course.new (T.seen theory.new) (counts budget.new) result }
     ensures rows { (T.seen theory.new).rows ≡ (T.seen theory.old).rows }
     ensures limit { budget.new.limit ≡ budget.old.limit }
@@ -189,7 +182,9 @@ fn consult<T: Theory, G: Guide<T>>(
     wish: Option<Lit>,
     may_stop: bool,
 ) -> Turn
-    requires { (s : T.State) × IsDeciding T.relations clauses.now s course.old (T.seen theory.old) (counts budget.old) wish }
+    requires covering { IsCovering clauses.now course.old }
+    requires deciding { (s : T.State) × IsDeciding T.relations clauses.now s course.old (T.seen theory.old) (counts budget.old) wish }
+    ensures covering { CoveringTurn clauses.now course.new result }
     ensures turns { (s : T.State) → IsDeciding T.relations clauses.now s course.old (T.seen theory.old) (counts budget.old) wish → Turns T.relations clauses.now s (IsAllowedStop may_stop (G.stops clauses.now guide.new theory.new)) (work_left course.old (counts budget.old)) course.new (T.seen theory.new) (counts budget.new) result }
     ensures rows { (T.seen theory.new).rows ≡ (T.seen theory.old).rows }
     ensures limit { budget.new.limit ≡ budget.old.limit }
@@ -223,7 +218,9 @@ fn decide<T: Theory>(
     advice: Option<Lit>,
     wish: Option<Lit>,
 ) -> Step
-    requires { (s : T.State) × IsDeciding T.relations clauses.now s course.old (T.seen theory.old) (counts budget.old) wish }
+    requires covering { IsCovering clauses.now course.old }
+    requires deciding { (s : T.State) × IsDeciding T.relations clauses.now s course.old (T.seen theory.old) (counts budget.old) wish }
+    ensures covering { CoveringStep clauses.now course.new result }
     ensures steps { (s : T.State) → IsDeciding T.relations clauses.now s course.old (T.seen theory.old) (counts budget.old) wish → Steps T.relations clauses.now s (work_left course.old (counts budget.old)) course.new (T.seen theory.new) (counts budget.new) result }
     ensures rows { (T.seen theory.new).rows ≡ (T.seen theory.old).rows }
     ensures limit { budget.new.limit ≡ budget.old.limit }

@@ -1,6 +1,6 @@
 // The trail: the literals that are assumed, with the truth that they give each atom.
 ghost use Rattle.std.specs.Prelude.{◌≡◌, ℕ, ◌-◌, ◌<◌, ◌≤◌, [], ◌∷◌, ◌++◌, length, map, take, slice_index_or, IfOk, MatchOption, Bool, true, Option, None};
-ghost use Rattle.clause_form.specs.Derivations.{HasAtom};
+ghost use Rattle.clause_form.specs.Derivations.{HasAtom, NamesOnce};
 ghost use Rattle.clause_form.specs.Journals.{literals};
 ghost use Rattle.learned_clause.specs.Trails.{entries as entries_of};
 ghost use Rattle.clause_search.specs.Answers.{IsAssignment};
@@ -59,14 +59,16 @@ impl Trail {
 
     /// The truth that the trail gives the atom, if it names it.
     pub(crate) fn truth(&self, atom: u32) -> Option<bool>
-        ensures { Says (literals self.now.entries) atom result }
+        ensures says { Says (literals self.now.entries) atom result }
+        ensures once { NamesOnce self.now.atoms (literals self.now.entries) }
     {
         truth_at(self.truths.as_slice(), atom)
     }
 
     /// Whether the trail makes the literal true or false, if it names its atom.
     pub(crate) fn value(&self, lit: Lit) -> Option<bool>
-        ensures { Gives (literals self.now.entries) lit result }
+        ensures gives { Gives (literals self.now.entries) lit result }
+        ensures once { NamesOnce self.now.atoms (literals self.now.entries) }
     {
         match self.truth(lit.atom) {
             Some(truth) => Some(truth == lit.positive),

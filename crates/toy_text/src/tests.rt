@@ -1,6 +1,7 @@
 ghost use Rattle.std.specs.Prelude.{◌<◌, length};
 
 use super::*;
+use line_tables::word_of;
 use std::alloc::Global;
 use std::test::Fail;
 use whole::{ReadFault, Refusal};
@@ -27,12 +28,25 @@ fn refusal_of(alloc: Global, bytes: &[u8]) -> Result<(u8, u32), Fail>
 #[test]
 fn a_toy_is_read_and_printed_again(rt: HostRuntime) -> Result<(), Fail> {
     let text = b"toy 2\nlist 2 5 -7\nopen\nlist 0\nclose\nend\n";
-    let lines = read_toy(rt.alloc(), text)?;
-    let slice = lines.as_slice();
-    assert_eq!(rt;
-        format!(in rt.alloc(); "{slice:?}")?.as_str(),
-        "[Header(2), Numbers(Items { items: [5, -7] }), Open, Numbers(Items { items: [] }), Close, End]"
-    );
+    let rows = read_toy(rt.alloc(), text)?;
+    let slice = rows.as_slice();
+    for (i, (word, numbers)) in [
+        ("toy", "[2]"),
+        ("list", "[2, 5, -7]"),
+        ("open", "[]"),
+        ("list", "[0]"),
+        ("close", "[]"),
+        ("end", "[]"),
+    ]
+    .into_iter()
+    .enumerate()
+    {
+        let row = slice.get(i).ok_or("a row is missing")?;
+        let found = row.numbers.as_slice();
+        assert_eq!(rt; word_of(TOY.lines, row), word);
+        assert_eq!(rt; format!(in rt.alloc(); "{found:?}")?.as_str(), numbers);
+    }
+    assert_eq!(rt; slice.len(), 6);
     let printed = print_toy(rt.alloc(), slice).ok().ok_or("memory ran out")?;
     assert_eq!(rt; printed.as_slice(), text.as_slice());
     toys_are_told_apart();

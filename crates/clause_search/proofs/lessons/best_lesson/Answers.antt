@@ -1,4 +1,4 @@
-use Rattle.std.proofs.Common.{ℕ, Option, IfSome, subst}
+use Rattle.std.proofs.Common.{ℕ, Option, IfSome, ◌∙◌, subst}
 use Rattle.clause_form.specs.Derivations.{rows_of}
 use Rattle.clause_form.specs.Journals.{literals}
 use Rattle.learned_clause.specs.Trails.{known_with}
@@ -16,4 +16,16 @@ pub starts-preserved : goal.starts-preserved
 starts-preserved c =
     let K = known_with c.args.clauses.now.clauses c.args.lemmas.now in
     let fails = subst (λ (found : Option ℕ). IfSome found (λ number. IsFalseAt K (literals c.args.trail.now.entries) number)) c.in-Some.is c.in_ok-number.ensures.found in
-    better_here (rows_of c.args.clauses.now) K c.args.trail.now.entries c.args.start c.starts.best c.in_ok-other-in-Some.other c.better-best.result c.starts.invariant (from_other (rows_of c.args.clauses.now) K c.args.trail.now.entries c.args.start c.in-Some.number c.in_ok-other-in-Some.other fails c.in_ok-other-in-Some.ensures) c.better-best.ensures
+    record {
+      best = better_here (rows_of c.args.clauses.now) K c.args.trail.now.entries c.args.start c.starts.best c.in_ok-other-in-Some.other c.better-best.result c.starts.invariant.best (from_other (rows_of c.args.clauses.now) K c.args.trail.now.entries c.args.start c.in-Some.number c.in_ok-other-in-Some.other fails c.in_ok-other-in-Some.ensures) c.better-best.ensures;
+      occurrences = c.in_ok-number.ensures.occurrences ∙ c.starts.invariant.occurrences;
+    }
+
+pub returns-in_err-number-clause-occurrences : goal.returns-in_err-number-clause-occurrences
+returns-in_err-number-clause-occurrences c = c.next_false.ensures.occurrences ∙ c.starts.invariant.occurrences
+
+pub returns-in_err-other-in-Some-clause-occurrences : goal.returns-in_err-other-in-Some-clause-occurrences
+returns-in_err-other-in-Some-clause-occurrences c = c.in_ok-number.ensures.occurrences ∙ c.starts.invariant.occurrences
+
+pub returns-in-None-clause-occurrences : goal.returns-in-None-clause-occurrences
+returns-in-None-clause-occurrences c = c.in_ok-number.ensures.occurrences ∙ c.starts.invariant.occurrences

@@ -5,11 +5,13 @@ use Rattle.clause_search.specs.Courses.{work_left}
 use Rattle.clause_search.specs.Answers.{IsSpent, IsStuck, starting_at}
 use Rattle.clause_search.proofs.AnswerLaws.{all_atoms, closed_found, made_as, stopped, total_found}
 use Rattle.clause_search.proofs.CourseLaws.{begun}
+use Rattle.clause_search.proofs.UpkeepLaws.{covering_begun}
 use Rattle.clause_search.proofs.searching.run.Goals as goal
 
 pub steps-init : goal.steps-init
 steps-init g c = record {
   at = begun g.T.Theory.relations c.args.clauses.now (g.T.Theory.seen c.args.theory.now) (counts c.args.budget.now) c.in-Ok.course g.T.Theory.begins_calm c.requires c.in-Ok.ensures;
+  covering = covering_begun c.args.clauses.now c.in-Ok.course c.in-Ok.ensures;
   rows = refl;
   limit = refl;
 }
@@ -39,3 +41,6 @@ pub returns-in-Stops-clause-found : goal.returns-in-Stops-clause-found
 returns-in-Stops-clause-found g c =
     let stands = c.in-Stops.ensures.turns (g.T.Theory.seen c.args.theory.now).state c.steps.invariant.at in
     (stopped g.T.Theory.relations c.args.clauses.now (g.T.Theory.seen c.args.theory.now).state c.take_step.new.course (g.T.Theory.seen c.take_step.new.theory) (counts c.take_step.new.budget) c.into_journal-in-Stops.result stands.0 c.into_journal-in-Stops.ensures, stands.1)
+
+pub take_step-requires-clause-covering : goal.take_step-requires-clause-covering
+take_step-requires-clause-covering g c = c.steps.invariant.covering

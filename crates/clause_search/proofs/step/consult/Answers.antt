@@ -8,10 +8,10 @@ use Rattle.clause_search.proofs.step.consult.Goals as goal
 
 pub advise-advice-requires : goal.advise-advice-requires
 advise-advice-requires g c =
-    let old = c.requires.1.0.0.underway in record {
+    let old = c.requires.deciding.1.0.0.underway in record {
       formed = old.formed;
       rows = old.rows;
-      calm = calm_of g.T.Theory.relations c.args.clauses.now c.requires.0 c.args.course.now (g.T.Theory.seen c.args.theory.now) (counts c.args.budget.now) (paused g.T.Theory.relations c.args.clauses.now c.requires.0 c.args.course.now (g.T.Theory.seen c.args.theory.now) (counts c.args.budget.now) c.args.wish c.requires.1);
+      calm = calm_of g.T.Theory.relations c.args.clauses.now c.requires.deciding.0 c.args.course.now (g.T.Theory.seen c.args.theory.now) (counts c.args.budget.now) (paused g.T.Theory.relations c.args.clauses.now c.requires.deciding.0 c.args.course.now (g.T.Theory.seen c.args.theory.now) (counts c.args.budget.now) c.args.wish c.requires.deciding.1);
       told = old.told ∙ ap literals (sym c.as_slice-2.ensures);
     }
 

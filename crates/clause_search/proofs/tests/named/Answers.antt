@@ -1,4 +1,4 @@
-use Rattle.std.proofs.Common.{◌≡◌, ◌≤◌, ◌∙◌, List, [], length, ap, subst, arith}
+use Rattle.std.proofs.Common.{◌≤◌, ◌∙◌, List, length, ap, subst, arith}
 use Rattle.farkas_cert.specs.declared.literals.Lit.{Lit}
 use Rattle.clause_search.proofs.ExampleLaws.{AllBelow, are_below_all, named_formed, with_atoms}
 use Rattle.clause_search.proofs.tests.named.Goals as goal
