@@ -59,22 +59,23 @@ fn truths<F: OrderedField>(
 ) -> Option<Items<bool>>
     requires formed { IsWellFormed clauses.now }
     requires count { length values.now.values ≡ clauses.now.columns }
-    requires over_from { pos 1 ≤ℤ values.now.over }
     requires each_in { All IsWithin values.now.values }
+    requires over_from { pos 1 ≤ℤ values.now.over }
     ensures count { IfSome result (λ truths. length truths ≡ length clauses.now.atoms) }
     ensures agree { IfSome result (λ truths. RowsAgree clauses.now (entry values.now.values) (unsigned_abs values.now.over) (truth_in truths)) }
 {
     let mut truths = Items::new(alloc);
     for atom in clauses.atoms.as_slice() {
         let truth = truth(clauses, outlook, values, atom, truths.as_slice())?;
-        if truths.push(truth).is_err() {
+        let Ok(()) = truths.push(truth) else {
             return None;
-        }
+        };
     }
     Some(truths)
 }
 
 // The truth of an atom, where those before it have these truths.
+#[tactic(auto, using(whole::proofs::Overflow::signed))]
 fn truth<F: OrderedField>(
     clauses: &Clauses,
     outlook: &Outlook<F>,
@@ -84,8 +85,8 @@ fn truth<F: OrderedField>(
 ) -> Option<bool>
     requires formed { IsWellFormed clauses.now }
     requires count { length values.now.values ≡ clauses.now.columns }
-    requires over_from { pos 1 ≤ℤ values.now.over }
     requires each_in { All IsWithin values.now.values }
+    requires over_from { pos 1 ≤ℤ values.now.over }
     ensures { IfSome result (Agrees clauses.now (entry values.now.values) (unsigned_abs values.now.over) atom.now) }
 {
     match atom {
@@ -94,7 +95,10 @@ fn truth<F: OrderedField>(
             num,
             den,
             strict,
-        } => row_holds(clauses, values, *form, *num, *den, *strict),
+        } => {
+            let whole = values.values.as_slice();
+            row_holds(clauses, whole, values.over, *form, *num, *den, *strict)
+        }
         Atom::Named => Some(outlook.name_holds(before)),
     }
 }

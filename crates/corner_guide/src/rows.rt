@@ -8,29 +8,38 @@ ghost use Rattle.clause_form.specs.WellFormed.{IsWellFormed};
 
 use clause_form::Clauses;
 use linear_form::sum_at;
-use lra_theory::Values;
 
 /// Whether `den * form <= num` holds, or `<` where it is strict. None where a number is too wide.
+#[tactic(auto, using(whole::proofs::Overflow::signed))]
 pub(crate) fn row_holds(
     clauses: &Clauses,
-    values: &Values,
+    values: &[i128],
+    over: i128,
     form: u32,
     num: i128,
     den: i128,
     strict: bool,
 ) -> Option<bool>
     requires formed { IsWellFormed clauses.now }
-    requires count { length values.now.values ≡ clauses.now.columns }
-    requires each_in { All IsWithin values.now.values }
-    ensures { IfSome result (λ holds. IsTrue holds ↔ Bounds strict true (den *ℤ form_value clauses.now.columns clauses.now.forms (entry values.now.values) form) (num *ℤ values.now.over)) }
+    requires count { length values.now ≡ clauses.now.columns }
+    requires each_in { All IsWithin values.now }
+    ensures { IfSome result (λ holds. IsTrue holds ↔ Bounds strict true (den *ℤ form_value clauses.now.columns clauses.now.forms (entry values.now) form) (num *ℤ over)) }
 {
-    let value = value_of(clauses, values.values.as_slice(), form)?;
-    let left = den.checked_mul(value)?;
-    let right = num.checked_mul(values.over)?;
-    Some(is_bounded(left, right, strict))
+    let value = value_of(clauses, values, form)?;
+    is_bounded(den, value, num, over, strict)
 }
 
-fn is_bounded(sum: i128, bound: i128, strict: bool) -> bool
+// Whether `den * value` is at most `num * over`, or below it where that is asked.
+#[tactic(auto, using(whole::proofs::Overflow::signed))]
+fn is_bounded(den: i128, value: i128, num: i128, over: i128, strict: bool) -> Option<bool>
+    ensures { IfSome result (λ holds. IsTrue holds ↔ Bounds strict true (den *ℤ value) (num *ℤ over)) }
+{
+    let sum = den.checked_mul(value)?;
+    let bound = num.checked_mul(over)?;
+    Some(is_at_most(sum, bound, strict))
+}
+
+fn is_at_most(sum: i128, bound: i128, strict: bool) -> bool
     ensures { IsTrue result ↔ Bounds strict true sum bound }
 {
     if strict { sum < bound } else { sum <= bound }
