@@ -1,6 +1,6 @@
 -- The search's answers, said of the clauses: it began at the opening of their rows' theory.
-use Rattle.std.proofs.Common.{◌≡◌, ◌∙◌, ℕ, ◌≤◌, ◌^◌, unsigned_abs, Bool, List, Option, None, Some, inl, inr, sym, ap, subst, arith}
-use Rattle.std.specs.Prelude.{IfSome, IsSomeAnd}
+use Rattle.std.proofs.Common.{◌≡◌, ◌∙◌, ℕ, ◌≤◌, ◌^◌, unsigned_abs, Bool, List, Option, None, Some, inl, inr, sym, ap, subst, rules, arith}
+use Rattle.std.specs.Prelude.{IfSome, IsSome, IsSomeAnd}
 use Rattle.whole.specs.Budget.{Counts, counts, opening}
 use Rattle.whole.specs.declared.answers.Stuck.{Stuck}
 use Rattle.whole.specs.declared.budget.Budget.{Budget}
@@ -25,7 +25,7 @@ use Rattle.corner_values.specs.declared.answer.Values.{Values}
 use Rattle.lra_theory.specs.Relations.{HasViolated, IsOpeningOf, relations}
 use Rattle.lra_theory.specs.Standings.{IsFresh}
 use Rattle.lra_theory.specs.States.{State}
-use Rattle.lra_solve.specs.Solving.{Answers, AreModelAt, AreValuesOf, IsCalmAt, IsCounted, IsFound, IsFoundTotal, IsLightProof, IsSpent, IsStuck, IsStuckTotal, IsTotalAt, IsValued, Solves, SolvesTotal, value_of}
+use Rattle.lra_solve.specs.Solving.{Answers, AreModelAt, AreValuesOf, IsCalmAt, IsCounted, IsFound, IsFoundTotal, IsLightProof, IsSpent, IsStuck, IsStuckTotal, IsTotalAt, IsValued, MayValue, Solves, SolvesTotal, value_of}
 use Rattle.lra_solve.specs.declared.solved.Solved.{Solved}
 use Rattle.lra_solve.specs.declared.solved.Solved.TheVariants as solved
 use Rattle.lra_solve.specs.declared.solved.Spent.{Spent}
@@ -210,6 +210,20 @@ total_solves c budget (solved.Closed cert) is = is
 total_solves c budget (solved.Spent spent) is = is
 total_solves c budget (solved.Stuck stuck spent) is = is
 total_solves c budget solved.NoMemory is = tt
+
+-- a guide that stopped the search holds a model
+pub holds_some : (guide : Option CornerModel) (P : CornerModel → Type 0) → IsSomeAnd guide P → IsSome guide
+holds_some None P is = absurd is
+holds_some (Some m) P is = search rules
+
+-- at a total assignment the theory's last answer was Fine
+pub may_value : (R : Relations (State MixedFrac)) (c : Clauses) (s : TheoryView (State MixedFrac)) (n : Counts) (found : Found) → search.Finds R c s n found
+    → MayValue s found
+may_value R c s n (found.Total truths journal) is = is.fine
+may_value R c s n (found.Closed cert) is = tt
+may_value R c s n (found.Spent journal) is = tt
+may_value R c s n (found.Stuck stuck journal) is = tt
+may_value R c s n found.NoMemory is = tt
 
 -- the model of a guide that stopped the search
 pub stopped_solves : (c : Clauses) (budget : ℕ) (s : TheoryView (State MixedFrac)) (guide : Option CornerModel) (spent : Spent) (answer : Solved)

@@ -1,7 +1,7 @@
 use Rattle.std.proofs.Common.{◌∙◌, ap}
 use Rattle.whole.specs.Budget.{Counts}
 use Rattle.lra_solve.specs.Solving.{seen_of}
-use Rattle.lra_solve.proofs.SolveLaws.{answered_law, search_starts, stopped_solves, total_solves}
+use Rattle.lra_solve.proofs.SolveLaws.{answered_law, holds_some, may_value, search_starts, stopped_solves, total_solves}
 use Rattle.lra_solve.proofs.solving.solve.Goals as goal
 
 pub search_until-requires : goal.search_until-requires
@@ -10,7 +10,7 @@ search_until-requires c =
     c.new-budget.ensures
 
 pub stopped-requires : goal.stopped-requires
-stopped-requires c = ?
+stopped-requires c = holds_some c.search_until.new.guide _ c.in-Stopped.ensures.found.1
 
 pub returns-in-Stopped : goal.returns-in-Stopped
 returns-in-Stopped c =
@@ -21,12 +21,12 @@ returns-in-Stopped c =
     (c.in-Stopped.ensures.limit ∙ ap (λ (n : Counts). n.limit) c.new-budget.ensures) c.in-Stopped.ensures.found.0 c.in-Stopped.ensures.found.1 c.stopped.ensures
 
 pub answered-requires : goal.answered-requires
-answered-requires c = ?
+answered-requires c = may_value _ c.args.clauses.now (seen_of c.search_until.new.theory) _ c.in-Found.found c.in-Found.ensures.found
 
-pub returns-in-Found : goal.returns-in-Found
-returns-in-Found c =
+pub returns : goal.returns
+returns c =
     total_solves c.args.clauses.now c.args.budget c.answered.result
     (answered_law c.args.clauses.now c.args.budget (seen_of c.in-Ok.theory).state c.in-Ok.ensures.state (seen_of c.search_until.new.theory)
-        c.search_until.new.budget c.in-Found.found c.answered.result
-        (c.in-Found.ensures.rows ∙ c.in-Ok.ensures.rows)
-        (c.in-Found.ensures.limit ∙ ap (λ (n : Counts). n.limit) c.new-budget.ensures) c.in-Found.ensures.found c.answered.ensures)
+    c.search_until.new.budget c.in-Found.found c.answered.result
+    (c.in-Found.ensures.rows ∙ c.in-Ok.ensures.rows)
+    (c.in-Found.ensures.limit ∙ ap (λ (n : Counts). n.limit) c.new-budget.ensures) c.in-Found.ensures.found c.answered.ensures)
