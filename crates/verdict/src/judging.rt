@@ -129,7 +129,7 @@ fn settle(alloc: Global, asked: &Asked, problem: Problem) -> Result<Verdict, Jud
     ensures { Concludes asked.now.controller asked.now.question result }
 {
     let decided = decide(alloc, &problem, asked.question.setting.budget);
-    match settled(asked, &problem, decided) {
+    match confirmed(asked, &problem, decided) {
         Settled::Verdict(verdict) => Ok(verdict),
         Settled::Overflow(_stuck, _spent) => settle_total(alloc, asked, &problem),
         Settled::NoMemory => Err(JudgeFault::NoMemory),
@@ -144,7 +144,7 @@ fn settle_total(alloc: Global, asked: &Asked, problem: &Problem) -> Result<Verdi
     ensures { Concludes asked.now.controller asked.now.question result }
 {
     let decided = decide_total(alloc, problem, asked.question.setting.budget);
-    match settled(asked, problem, decided) {
+    match confirmed(asked, problem, decided) {
         Settled::Verdict(verdict) => Ok(verdict),
         Settled::Overflow(stuck, spent) => Ok(Verdict::Wide(stuck, spent)),
         Settled::NoMemory => Err(JudgeFault::NoMemory),
@@ -161,7 +161,7 @@ enum Settled {
 }
 
 /// What an answer about a problem comes to.
-fn settled(asked: &Asked, problem: &Problem, decided: Decided) -> Settled
+fn confirmed(asked: &Asked, problem: &Problem, decided: Decided) -> Settled
     requires controller_in { IsController asked.now.controller }
     requires question_in { IsQuestion (length asked.now.controller.states) asked.now.question }
     requires problem_in { IsProblemOf asked.now.controller asked.now.question problem.now }

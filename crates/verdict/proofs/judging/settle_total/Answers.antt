@@ -18,8 +18,8 @@ decide_total-decided-requires-clause-columns c =
 pub decide_total-decided-requires-clause-budget_to : goal.decide_total-decided-requires-clause-budget_to
 decide_total-decided-requires-clause-budget_to c = let most = c.requires.question_in.setting_in.budget_to in omega arith
 
-pub settled-requires-clause-decides : goal.settled-requires-clause-decides
-settled-requires-clause-decides c =
+pub confirmed-requires-clause-decides : goal.confirmed-requires-clause-decides
+confirmed-requires-clause-decides c =
     total_decides c.args.problem.now c.args.asked.now.question.setting.budget c.decide_total-decided.result c.decide_total-decided.ensures
 
 pub returns-in-Verdict : goal.returns-in-Verdict

@@ -2,7 +2,7 @@ use Rattle.std.proofs.Common.{inl, subst}
 use Rattle.verdict.specs.Deciding.{Decides}
 use Rattle.verdict.specs.declared.deciding.Decided.{Decided}
 use Rattle.verdict.proofs.JudgeLaws.{found_violates, replayed_settles, verified_law}
-use Rattle.verdict.proofs.judging.settled.Goals as goal
+use Rattle.verdict.proofs.judging.confirmed.Goals as goal
 
 pub replayed-requires-clause-violation : goal.replayed-requires-clause-violation
 replayed-requires-clause-violation c =
