@@ -1,4 +1,5 @@
 // What the names of a problem stand for.
+use crate::model::truth_in;
 use clause_form::{Atom, Clauses};
 use farkas_cert::Lit;
 use std::alloc::Global;
@@ -64,6 +65,18 @@ fn note(clauses: &Clauses, numbers: &mut [Option<u32>], clause: &[Lit], number: 
 }
 
 impl<'a> Parts<'a> {
+    /// Whether all parts are true, or one, as is wanted, where the atoms have these truths.
+    pub(crate) fn hold(&self, truths: &[bool]) -> bool {
+        for part in self.rest {
+            let part = self.signed(*part);
+            let holds = truth_in(truths, part.atom) == part.positive;
+            if holds != self.all {
+                return holds;
+            }
+        }
+        self.all
+    }
+
     /// A part, signed as it stands for the name's literal.
     pub(crate) fn signed(&self, part: Lit) -> Lit {
         if self.as_written {

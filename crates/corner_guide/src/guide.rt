@@ -1,8 +1,9 @@
 // The guide itself.
-ghost use Rattle.clause_search.specs.Advices.{IfStop};
+ghost use Rattle.std.specs.Prelude.{◌≡◌};
 
 use crate::definitions::{Definitions, Parts};
 use crate::distance::Distance;
+use crate::model::{CornerModel, corner_model};
 use crate::outlook::{DEEPEST, Outlook};
 use clause_form::Clauses;
 use clause_search::{Advice, Guide};
@@ -11,6 +12,7 @@ use learned_clause::Assigned;
 use lra_theory::Lra;
 use ordered_field::OrderedField;
 use std::alloc::Global;
+use std::marker::Model;
 use whole::NoMemory;
 
 /// Decides for the least-numbered clause that is true neither on the trail nor at the corner, by its
@@ -33,6 +35,16 @@ use whole::NoMemory;
 pub struct CornerGuide {
     alloc: Global,
     definitions: Definitions,
+    model: Option<CornerModel>,
+}
+
+impl Model for CornerGuide {
+    ghost use Rattle.std.specs.Prelude.{Option};
+    ghost use Rattle.corner_guide.specs.declared.model.CornerModel.{CornerModel as AModel};
+
+    ghost Value = { Option AModel };
+
+    ghost view = { λ g. g.model };
 }
 
 impl CornerGuide {
@@ -41,13 +53,30 @@ impl CornerGuide {
         Ok(CornerGuide {
             alloc,
             definitions: Definitions::new(alloc, clauses)?,
+            model: None,
         })
+    }
+
+    /// The model at which it last advised to stop.
+    pub fn into_model(self) -> Option<CornerModel>
+        ensures { result ≡ self }
+    {
+        let CornerGuide {
+            alloc: _,
+            definitions: _,
+            model,
+        } = self;
+        model
     }
 }
 
 impl<F: OrderedField> Guide<Lra<F>> for CornerGuide {
-    // It never stops a search.
-    ghost stops = { λ clauses guide theory. ⊥ };
+    ghost use Rattle.std.specs.Prelude.{IsSomeAnd};
+    ghost use Rattle.lra_theory.specs.Standings.{seen};
+    ghost use Rattle.corner_guide.specs.Models.{IsCornerModel};
+
+    // The model that it holds is one of the clauses, at the theory's corner.
+    ghost stops = { λ clauses guide theory. IsSomeAnd guide (IsCornerModel clauses (seen F.value theory)) };
 
     fn advise(
         &mut self,
@@ -56,20 +85,17 @@ impl<F: OrderedField> Guide<Lra<F>> for CornerGuide {
         trail: &[Assigned],
         theory: &Lra<F>,
     ) -> Advice {
-        match Outlook::new(self.alloc, clauses, &self.definitions, trail, theory) {
-            Ok(outlook) => advice(wanted(&outlook, lemmas)),
-            Err(NoMemory) => Advice::Nothing,
+        let Ok(outlook) = Outlook::new(self.alloc, clauses, &self.definitions, trail, theory) else {
+            return Advice::Nothing;
+        };
+        if let Some(model) = corner_model(self.alloc, clauses, &outlook, theory) {
+            self.model = Some(model);
+            return Advice::Stop;
         }
-    }
-}
-
-// Where each clause is true at the corner, the search goes on by its own rule.
-fn advice(wanted: Option<Lit>) -> Advice
-    ensures { IfStop ⊥ result }
-{
-    match wanted {
-        Some(lit) => Advice::Decide(lit),
-        None => Advice::Nothing,
+        match wanted(&outlook, lemmas) {
+            Some(lit) => Advice::Decide(lit),
+            None => Advice::Nothing,
+        }
     }
 }
 

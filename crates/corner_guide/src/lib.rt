@@ -8,8 +8,11 @@
 mod definitions;
 mod distance;
 mod guide;
+mod model;
 mod outlook;
+mod rows;
 #[cfg(test)]
 mod tests;
 
 pub use guide::CornerGuide;
+pub use model::CornerModel;

@@ -50,6 +50,25 @@ impl<'a, F: OrderedField> Outlook<'a, F> {
         self.definitions.parts(self.clauses, lit)
     }
 
+    /// Whether a name is true, where the atoms before it have these truths: as the trail says, and off
+    /// the trail as its formula. The parts of a name stand before it.
+    pub(crate) fn name_holds(&self, before: &[bool]) -> bool {
+        let Ok(atom) = u32::try_from(before.len()) else {
+            return false;
+        };
+        let name = Lit {
+            atom,
+            positive: true,
+        };
+        match self.truth(name) {
+            Some(truth) => truth,
+            None => match self.parts(name) {
+                Some(parts) => parts.hold(before),
+                None => false,
+            },
+        }
+    }
+
     /// How far a literal is from true: on the trail it is true or far; a row's is by its row, and a
     /// name's by its parts, the sum where all are wanted and else the least.
     pub(crate) fn distance(&self, lit: Lit, depth: u32) -> Distance<F> {

@@ -1,9 +1,10 @@
 -- What the answers of a search over linear rows mean. A journal is legal for the clauses: it begins at the opening of the
 -- theory of their rows, and each of its conflicts learns.
-use Rattle.std.specs.Prelude.{◌≡◌, ℕ, ◌+◌, ◌^◌, ◌≤◌, pos, ◌≤ℤ◌, unsigned_abs, Bool, ◌⊎◌, List, length, All}
+use Rattle.std.specs.Prelude.{◌≡◌, ℕ, ◌+◌, ◌^◌, ◌≤◌, pos, ◌≤ℤ◌, unsigned_abs, Bool, true, ◌⊎◌, List, length, All}
 use Rattle.whole.specs.Budget.{counts}
 use Rattle.whole.specs.Numbers.{IsWithin}
 use Rattle.whole.specs.declared.answers.Stuck.{Stuck}
+use Rattle.whole.specs.declared.budget.Budget.{Budget}
 use Rattle.ordered_field.specs.Rational.{ℚ}
 use Rattle.fraction.specs.Mixed.{kept_value, limit}
 use Rattle.fraction.specs.declared.mixed.MixedFrac.{MixedFrac}
@@ -17,6 +18,8 @@ use Rattle.clause_form.specs.Theories.{AreMet, HasSolution, Relations, TheoryVie
 use Rattle.clause_form.specs.declared.clauses.Clauses.{Clauses}
 use Rattle.cert_text.specs.Journals.{how_many, is_decide, is_pivot, is_propagate}
 use Rattle.clause_search.specs.Answers.{AreLight, IsAssignment, IsTally, truth_in}
+use Rattle.clause_search.specs.declared.found.Found.{Found}
+use Rattle.clause_search.specs.declared.found.Found.TheVariants as found
 use Rattle.clause_search.specs.Lessons.{IsOpenLearning, ReachesLearning, SticksLearning}
 use Rattle.corner_values.specs.Faults.{IsStuckValue}
 use Rattle.corner_values.specs.Values.{AreValuesAt}
@@ -57,6 +60,22 @@ IsValued s truths spent (solved.Spent kept) = ⊥
 IsValued s truths spent (solved.Stuck stuck kept) = (kept ≡ spent) × IsStuckValue limit s.state.corner stuck
 IsValued s truths spent solved.NoMemory = Unit {0}
 
+-- the values may be asked for where an assignment is total
+abbrev pub MayValue : TheoryView (State MixedFrac) → Found → Type 0
+MayValue s (found.Total truths journal) = s.fine ≡ true
+MayValue s (found.Closed cert) = Unit {0}
+MayValue s (found.Spent journal) = Unit {0}
+MayValue s (found.Stuck stuck journal) = Unit {0}
+MayValue s found.NoMemory = Unit {0}
+
+-- what a search found, as an answer: with the values of a total assignment, and with what was spent
+abbrev pub Answers : TheoryView (State MixedFrac) → Budget → Found → Solved → Type 0
+Answers s budget (found.Total truths journal) answer = IsValued s truths (record { budget = budget; journal = journal }) answer
+Answers s budget (found.Closed cert) answer = answer ≡ solved.Closed cert
+Answers s budget (found.Spent journal) answer = answer ≡ solved.Spent (record { budget = budget; journal = journal })
+Answers s budget (found.Stuck stuck journal) answer = answer ≡ solved.Stuck stuck (record { budget = budget; journal = journal })
+Answers s budget found.NoMemory answer = answer ≡ solved.NoMemory
+
 -- decisions, propagated literals and pivots are charged
 abbrev pub charged_moves : List Move → ℕ
 charged_moves moves = how_many is_decide moves + how_many is_propagate moves + how_many is_pivot moves
@@ -68,27 +87,42 @@ module _ (c : Clauses) (budget : ℕ) where
     pub tally : IsTally spent.journal.moves (counts spent.budget)
     pub at_most : charged_moves spent.journal.moves ≤ budget
 
-  -- the journal reaches this place, learning, at which each atom is told with its truth, each clause is true, the rows of the literals
-  -- told have a common solution, and no variable is violated
-  pub record IsTotalAt (truths : List Bool) (place : Reached (State MixedFrac)) (spent : Spent) : Type 0 where
+  -- the journal reaches this place, learning, at which the rows of the literals told have a common solution, and no variable is violated
+  pub record IsCalmAt (place : Reached (State MixedFrac)) (spent : Spent) : Type 0 where
     pub counted : IsCounted spent
     pub reached : Reaches (theory_of c) c spent.journal.moves place
     pub learned : ReachesLearning (theory_of c) c spent.journal.moves place
-    pub atoms : length truths ≡ length c.atoms
-    pub assignment : IsAssignment truths (literals place.trail)
-    pub clauses : Satisfies (truth_in truths) c.clauses
     pub solution : HasSolution (rows_of c) (literals place.trail)
     pub calm : HasViolated place.state → ⊥
 
-  -- the values are those at the corner reached, and with the truths they are a model
-  pub record IsFound (values : Values) (truths : List Bool) (spent : Spent) : Type 0 where
-    pub place : Reached (State MixedFrac)
-    pub total : IsTotalAt truths place spent
+  -- there each atom is told with its truth, and each clause is true
+  pub record IsTotalAt (truths : List Bool) (place : Reached (State MixedFrac)) (spent : Spent) : Type 0 where
+    pub at : IsCalmAt place spent
+    pub atoms : length truths ≡ length c.atoms
+    pub assignment : IsAssignment truths (literals place.trail)
+    pub clauses : Satisfies (truth_in truths) c.clauses
+
+  -- the values are those at this place's corner, and meet the rows of the literals told there; with the truths they are a model
+  pub record AreModelAt (values : Values) (truths : List Bool) (place : Reached (State MixedFrac)) : Type 0 where
     pub at_corner : AreValuesAt place.state.corner values.over values.values
+    pub met : AreMet (rows_of c) (entry values.values) (unsigned_abs values.over) (literals place.trail)
     pub count : length values.values ≡ c.columns
     pub over_from : pos 1 ≤ℤ values.over
     pub each_in : All IsWithin values.values
+    pub atoms : length truths ≡ length c.atoms
     pub model : IsModel c (entry values.values) (unsigned_abs values.over) (truth_in truths)
+
+  -- a model at the corner that the journal reaches: an atom off the trail is as true as its row there
+  pub record IsFound (values : Values) (truths : List Bool) (spent : Spent) : Type 0 where
+    pub place : Reached (State MixedFrac)
+    pub at : IsCalmAt place spent
+    pub is_model : AreModelAt values truths place
+
+  -- such a model, whose truths are all told
+  pub record IsFoundTotal (values : Values) (truths : List Bool) (spent : Spent) : Type 0 where
+    pub place : Reached (State MixedFrac)
+    pub total : IsTotalAt truths place spent
+    pub is_model : AreModelAt values truths place
 
   -- the lemmas prove that there is no model, with trees that a certificate's text can hold and a checker can add up
   pub record IsLightProof (cert : Cert) : Type 0 where
@@ -116,9 +150,16 @@ module _ (c : Clauses) (budget : ℕ) where
     pub overflows : Sticks (theory_of c) c spent.journal.moves stuck ⊎ IsStuckTotal stuck spent
     pub learned : SticksLearning (theory_of c) c spent.journal.moves stuck ⊎ IsStuckTotal stuck spent
 
+  -- what an answer says, where this is said of a model
+  abbrev pub SolvesWith : (Values → List Bool → Spent → Type 0) → Solved → Type 0
+  SolvesWith Model (solved.Model values truths spent) = Model values truths spent
+  SolvesWith Model (solved.Closed cert) = IsLightProof cert
+  SolvesWith Model (solved.Spent spent) = IsSpent spent
+  SolvesWith Model (solved.Stuck stuck spent) = IsStuck stuck spent
+  SolvesWith Model solved.NoMemory = Unit {0}
+
   abbrev pub Solves : Solved → Type 0
-  Solves (solved.Model values truths spent) = IsFound values truths spent
-  Solves (solved.Closed cert) = IsLightProof cert
-  Solves (solved.Spent spent) = IsSpent spent
-  Solves (solved.Stuck stuck spent) = IsStuck stuck spent
-  Solves solved.NoMemory = Unit {0}
+  Solves answer = SolvesWith IsFound answer
+
+  abbrev pub SolvesTotal : Solved → Type 0
+  SolvesTotal answer = SolvesWith IsFoundTotal answer

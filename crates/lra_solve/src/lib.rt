@@ -9,4 +9,4 @@ mod tests;
 
 pub use lra_theory::Values;
 pub use solved::{Solved, Spent};
-pub use solving::solve;
+pub use solving::{solve, solve_total};

@@ -12,6 +12,7 @@ use Rattle.ctrl_meaning.specs.Flows.{shape_for}
 use Rattle.question_text.specs.Limits.{IsQuestion}
 use Rattle.question_text.specs.declared.questions.Question.{Question}
 use Rattle.farkas_cert.specs.declared.certificates.Cert.{Cert}
+use Rattle.whole.specs.declared.answers.Stuck.{Stuck}
 use Rattle.asked.specs.Asked.{AreAsked, AskFails}
 use Rattle.asked.specs.declared.asking.AskFault.{AskFault}
 use Rattle.asked.specs.declared.asking.AskFault.TheVariants as asking
@@ -28,26 +29,20 @@ use Rattle.trace_replay.specs.declared.replaying.Replayed.TheVariants.{Violating
 use Rattle.unroll.specs.Problems.{IsViolation}
 use Rattle.unroll.specs.declared.problems.Problem.{Problem}
 use Rattle.unroll.proofs.ProblemLaws.{over_is, over_some}
-use Rattle.lra_solve.specs.Solving.{IsLightProof}
 use Rattle.lra_solve.specs.declared.solved.Spent.{Spent}
-use Rattle.verdict.specs.Deciding.{IsFoundRun}
-use Rattle.verdict.specs.Judging.{Concludes, IsReplayed, IsVerified, IsViolated, Judges, Says, of_asking, of_building}
+use Rattle.verdict.specs.Deciding.{DecidesTotal, IsFoundRun}
+use Rattle.verdict.specs.Judging.{Concludes, IsOverflow, IsReplayed, IsVerified, IsViolated, Judges, Says, Settles, of_asking, of_building}
 use Rattle.verdict.specs.LightCerts.{IsCertificate}
 use Rattle.verdict.specs.Problems.{IsProblemOf, problem_of}
+use Rattle.verdict.specs.declared.deciding.Decided.{Decided}
+use Rattle.verdict.specs.declared.deciding.Decided.TheVariants as decided
 use Rattle.verdict.specs.declared.judging.JudgeFault.{JudgeFault}
 use Rattle.verdict.specs.declared.judging.JudgeFault.TheVariants as judging
+use Rattle.verdict.specs.declared.judging.Settled.{Settled}
+use Rattle.verdict.specs.declared.judging.Settled.TheVariants as settled
 use Rattle.verdict.specs.declared.judging.Verdict.{Verdict}
 use Rattle.verdict.specs.declared.judging.Verdict.TheVariants as verdict
-use Rattle.verdict.proofs.LightCerts.{light_stays, light_within}
 use Rattle.verdict.proofs.ProblemLaws.{model_violates, none_violates, problem_columns, problem_formed, shape_is_within}
-
--- a certificate that the search made
-pub proof_certificate : (c : Clauses) (budget : ℕ) (cert : Cert) → IsWellFormed c → IsLightProof c budget cert → IsCertificate c cert
-proof_certificate c budget cert formed light = record {
-  proves = light.proves;
-  fits = light_stays c cert light.light;
-  within = light_within c cert formed light.proves light.few light.light;
-}
 
 module _ (c : Controller) (q : Question) (p : Problem) (is : IsController c) (asked : IsQuestion (length c.states) q) (of : IsProblemOf c q p) where
   -- ---- what deciding the problem needs
@@ -67,11 +62,11 @@ module _ (c : Controller) (q : Question) (p : Problem) (is : IsController c) (as
   pub found_violates : (run : Run) (spent : Spent) → IsFoundRun p q.setting.budget run spent → IsViolation c q run
   found_violates run spent found =
       let values = found.values in
-      let some = found.found.over_from in
+      let some = found.found.is_model.over_from in
       let model =
-      model_violates c q p.clauses is asked of.made (entry values.values) (unsigned_abs values.over) _ (over_some values.over some) found.found.model in
+      model_violates c q p.clauses is asked of.made (entry values.values) (unsigned_abs values.over) _ (over_some values.over some) found.found.is_model.model in
       let here : run ≡ run_of (shape_for c q.setting) (entry values.values) (pos (unsigned_abs values.over)) =
-      found.run_is ∙ ap (λ (s : Shape). run_of s (entry values.values) values.over) of.shape_is
+      found.run_at.run_is ∙ ap (λ (s : Shape). run_of s (entry values.values) values.over) of.shape_is
       ∙ ap (λ (z : ℤ). run_of (shape_for c q.setting) (entry values.values) z) (over_is values.over some) in
       subst (λ (r : Run). IsViolation c q r) (sym here) model
 
@@ -81,25 +76,39 @@ module _ (c : Controller) (q : Question) (p : Problem) (is : IsController c) (as
       record {
         shape_is = of.shape_is;
         within = within_limits;
-        fits = found.fits;
+        fits = found.run_at.fits;
         run_of = violation.run;
         violates = violation.violates;
         replayed = replayed;
       }
 
   -- the verdict on a run that is found
-  pub replayed_says : (run : Run) (spent : Spent) (v : Verdict) → IsFoundRun p q.setting.budget run spent → IsReplayed c q p.shape run spent v → Says c q p v
-  replayed_says run spent (verdict.Violated same kept) found is =
+  pub replayed_settles : (run : Run) (spent : Spent) (answer : Decided) (v : Settled) → answer ≡ decided.Model run spent → IsFoundRun p q.setting.budget run spent
+      → IsReplayed c q p.shape run spent v → Settles c q p answer v
+  replayed_settles run spent answer (settled.Verdict (verdict.Violated same kept)) from found is =
       subst (λ (s : Shape). IsViolated c q s kept) (sym is.0) (subst (λ (r : Run). IsViolated c q p.shape r) (sym is.1) (violated_law run spent found is.2))
-  replayed_says run spent (verdict.Verified cert) found is = absurd is
-  replayed_says run spent (verdict.Budget kept) found is = absurd is
-  replayed_says run spent (verdict.Wide stuck kept) found is =
+  replayed_settles run spent answer (settled.Verdict (verdict.Verified cert)) from found is = absurd is
+  replayed_settles run spent answer (settled.Verdict (verdict.Budget kept)) from found is = absurd is
+  replayed_settles run spent answer (settled.Verdict (verdict.Wide stuck kept)) from found is = absurd is
+  replayed_settles run spent answer (settled.Overflow stuck kept) from found is = record {
+    run = run;
+    is = from ∙ ap (λ (x : Spent). decided.Model run x) (sym is.0);
+    violation = found_violates run spent found;
+    replayed = is.1;
+    overflows = is.2;
+  }
+  replayed_settles run spent answer settled.NoMemory from found is = absurd is
+
+  -- the run was found with each atom told
+  pub overflow_says : (answer : Decided) (stuck : Stuck) (spent : Spent) → DecidesTotal p q.setting.budget answer → IsOverflow c q answer stuck spent
+      → Says c q p (verdict.Wide stuck spent)
+  overflow_says answer stuck spent decides is =
       inr (record {
-        run = run;
-        found = subst (λ (x : Spent). IsFoundRun p q.setting.budget run x) (sym is.0) found;
-        violation = found_violates run spent found;
-        replayed = is.1;
-        overflows = is.2;
+        run = is.run;
+        found = subst (λ (a : Decided). DecidesTotal p q.setting.budget a) is.is decides;
+        violation = is.violation;
+        replayed = is.replayed;
+        overflows = is.overflows;
       })
 
   -- ---- a certificate

@@ -28,11 +28,15 @@ use Rattle.unroll.specs.Problems.{IsViolation}
 use Rattle.unroll.specs.declared.problems.Problem.{Problem}
 use Rattle.lra_solve.specs.Solving.{IsSpent, IsStuck}
 use Rattle.lra_solve.specs.declared.solved.Spent.{Spent}
-use Rattle.verdict.specs.Deciding.{IsFoundRun}
+use Rattle.verdict.specs.Deciding.{IsFoundTotalRun}
 use Rattle.verdict.specs.LightCerts.{IsCertificate}
 use Rattle.verdict.specs.Problems.{IsProblemOf, NoneViolates, problem_of}
+use Rattle.verdict.specs.declared.deciding.Decided.{Decided}
+use Rattle.verdict.specs.declared.deciding.Decided.TheVariants as decided
 use Rattle.verdict.specs.declared.judging.JudgeFault.{JudgeFault}
 use Rattle.verdict.specs.declared.judging.JudgeFault.TheVariants as fault
+use Rattle.verdict.specs.declared.judging.Settled.{Settled}
+use Rattle.verdict.specs.declared.judging.Settled.TheVariants as settled
 use Rattle.verdict.specs.declared.judging.Verdict.{Verdict}
 use Rattle.verdict.specs.declared.judging.Verdict.TheVariants as verdict
 
@@ -53,10 +57,11 @@ module _ (c : Controller) (q : Question) where
     pub checked : checks.verdict problem cert ≡ proved
     pub none : NoneViolates c q
 
-  -- the run of a model, at the corner that the journal reaches, has a weighing that overflows 128 bits before any other answer
+  -- the run of a model, at the corner that the journal reaches with each atom told, has a weighing that overflows 128 bits before
+  -- any other answer
   pub record IsWideReplay (p : Problem) (stuck : Stuck) (spent : Spent) : Type 0 where
     pub run : Run
-    pub found : IsFoundRun p q.setting.budget run spent
+    pub found : IsFoundTotalRun p q.setting.budget run spent
     pub violation : IsViolation c q run
     pub replayed : replaying c q run ≡ WideRun stuck
     pub overflows : IsFirstWide c q run stuck
@@ -80,11 +85,27 @@ module _ (c : Controller) (q : Question) where
   Concludes (Err fault.NoMemory) = Unit {0}
 
   -- what the replay of a run comes to that is one of the controller's flows and violates the question
-  abbrev pub IsReplayed : Shape → Run → Spent → Verdict → Type 0
-  IsReplayed shape run spent (verdict.Violated same kept) = (same ≡ shape) × (kept ≡ run) × (replaying c q run ≡ Violating)
-  IsReplayed shape run spent (verdict.Verified cert) = ⊥
-  IsReplayed shape run spent (verdict.Budget kept) = ⊥
-  IsReplayed shape run spent (verdict.Wide stuck kept) = (kept ≡ spent) × (replaying c q run ≡ WideRun stuck) × IsFirstWide c q run stuck
+  abbrev pub IsReplayed : Shape → Run → Spent → Settled → Type 0
+  IsReplayed shape run spent (settled.Verdict (verdict.Violated same kept)) = (same ≡ shape) × (kept ≡ run) × (replaying c q run ≡ Violating)
+  IsReplayed shape run spent (settled.Verdict (verdict.Verified cert)) = ⊥
+  IsReplayed shape run spent (settled.Verdict (verdict.Budget kept)) = ⊥
+  IsReplayed shape run spent (settled.Verdict (verdict.Wide stuck kept)) = ⊥
+  IsReplayed shape run spent (settled.Overflow stuck kept) = (kept ≡ spent) × (replaying c q run ≡ WideRun stuck) × IsFirstWide c q run stuck
+  IsReplayed shape run spent settled.NoMemory = ⊥
+
+  -- the answer is the run of a model, and this is the weighing of its replay that overflows
+  pub record IsOverflow (answer : Decided) (stuck : Stuck) (spent : Spent) : Type 0 where
+    pub run : Run
+    pub is : answer ≡ decided.Model run spent
+    pub violation : IsViolation c q run
+    pub replayed : replaying c q run ≡ WideRun stuck
+    pub overflows : IsFirstWide c q run stuck
+
+  -- what an answer about a problem comes to
+  abbrev pub Settles : Problem → Decided → Settled → Type 0
+  Settles p answer (settled.Verdict v) = Says p v
+  Settles p answer (settled.Overflow stuck spent) = IsOverflow answer stuck spent
+  Settles p answer settled.NoMemory = Unit {0}
 
 -- why there is no verdict on what two texts mean: the first refusal, or the limit that the problem exceeds
 abbrev pub Refuses : List ℕ → List ℕ → JudgeFault → Type 0

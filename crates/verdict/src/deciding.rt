@@ -1,15 +1,16 @@
 // Whether an unrolled problem has a model, which is then a run.
-ghost use Rattle.std.specs.Prelude.{◌≡◌, ◌≤◌, ◌^◌, ◌≤ℤ◌, pos, length, All, IfOk};
+ghost use Rattle.std.specs.Prelude.{◌≡◌, ℕ, ◌≤◌, ◌^◌, ◌≤ℤ◌, pos, length, All, IfOk};
 ghost use Rattle.claims.specs.Columns.{run_of};
 ghost use Rattle.clause_form.specs.WellFormed.{IsWellFormed};
 ghost use Rattle.run_rows.specs.Columns.{entries_of};
 ghost use Rattle.run_rows.specs.Limits.{IsWithin};
 ghost use Rattle.run_rows.specs.Runs.{Fits, IsEntry};
 ghost use Rattle.linear_form.specs.Sums.{entry};
-ghost use Rattle.verdict.specs.Deciding.{Decides};
+ghost use Rattle.lra_solve.specs.Solving.{Solves};
+ghost use Rattle.verdict.specs.Deciding.{Decides, DecidesTotal, IsAnswerOf};
 
 use farkas_cert::Cert;
-use lra_solve::{Solved, Spent, Values, solve};
+use lra_solve::{Solved, Spent, Values, solve, solve_total};
 use run_rows::Run;
 use std::alloc::Global;
 use unroll::{Problem, run_of};
@@ -40,7 +41,28 @@ pub fn decide(alloc: Global, problem: &Problem, budget: u64) -> Decided
     requires budget_to { budget ≤ 2 ^ 31 }
     ensures { Decides problem.now budget result }
 {
-    match solve(alloc, &problem.clauses, budget) {
+    answer(alloc, problem, solve(alloc, &problem.clauses, budget))
+}
+
+/// The same by [`lra_solve::solve_total`], which goes on to a truth of each atom.
+pub fn decide_total(alloc: Global, problem: &Problem, budget: u64) -> Decided
+    requires formed { IsWellFormed problem.now.clauses }
+    requires within { IsWithin problem.now.shape }
+    requires columns { problem.now.clauses.columns ≡ length (entries_of problem.now.shape) }
+    requires budget_to { budget ≤ 2 ^ 31 }
+    ensures { DecidesTotal problem.now budget result }
+{
+    answer(alloc, problem, solve_total(alloc, &problem.clauses, budget))
+}
+
+/// The answer about the problem, by what a search came to.
+fn answer(alloc: Global, problem: &Problem, solved: Solved) -> Decided
+    requires within { IsWithin problem.now.shape }
+    requires columns { problem.now.clauses.columns ≡ length (entries_of problem.now.shape) }
+    requires solves { (budget : ℕ) × Solves problem.now.clauses budget solved }
+    ensures { IsAnswerOf problem.now solved result }
+{
+    match solved {
         Solved::Model(values, _truths, spent) => match run_at(alloc, problem, &values) {
             Ok(run) => Decided::Model(run, spent),
             Err(NoMemory) => Decided::NoMemory,

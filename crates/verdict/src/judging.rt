@@ -8,11 +8,12 @@ ghost use Rattle.question_text.specs.declared.questions.Question.{Question as AQ
 ghost use Rattle.clause_form.specs.declared.clauses.Clauses.{Clauses as SomeClauses};
 ghost use Rattle.asked.specs.Asked.{AreAsked};
 ghost use Rattle.unroll.specs.Problems.{IsViolation};
-ghost use Rattle.verdict.specs.Judging.{Concludes, FaultUnless, IsReplayed, Judges, Refuses, of_asking, of_building};
+ghost use Rattle.verdict.specs.Deciding.{Decides};
+ghost use Rattle.verdict.specs.Judging.{Concludes, FaultUnless, IsReplayed, Judges, Refuses, Settles, of_asking, of_building};
 ghost use Rattle.verdict.specs.Problems.{IsProblemOf, problem_of};
 ghost use Rattle.verdict.specs.declared.judging.JudgeFault.{JudgeFault as AFault};
 
-use crate::deciding::{Decided, decide};
+use crate::deciding::{Decided, decide, decide_total};
 use asked::{AskFault, Asked, ask};
 use clause_form::{BuildFault, What};
 use farkas_cert::Cert;
@@ -119,24 +120,65 @@ fn of_building(fault: BuildFault) -> JudgeFault
     }
 }
 
-/// The verdict on the problem that a question poses.
+/// The verdict on the problem that a question poses. Where the replay of the run overflows that is found, the search goes on
+/// to a truth of each atom, as another run may be weighed exactly.
 fn settle(alloc: Global, asked: &Asked, problem: Problem) -> Result<Verdict, JudgeFault>
     requires controller_in { IsController asked.now.controller }
     requires question_in { IsQuestion (length asked.now.controller.states) asked.now.question }
     requires problem_in { IsProblemOf asked.now.controller asked.now.question problem }
     ensures { Concludes asked.now.controller asked.now.question result }
 {
-    match decide(alloc, &problem, asked.question.setting.budget) {
-        Decided::Model(run, spent) => Ok(replayed(asked, problem.shape, run, spent)),
-        Decided::Closed(cert) => Ok(Verdict::Verified(cert)),
-        Decided::Spent(spent) => Ok(Verdict::Budget(spent)),
-        Decided::Stuck(stuck, spent) => Ok(Verdict::Wide(stuck, spent)),
-        Decided::NoMemory => Err(JudgeFault::NoMemory),
+    let decided = decide(alloc, &problem, asked.question.setting.budget);
+    match confirmed(asked, &problem, decided) {
+        Settled::Verdict(verdict) => Ok(verdict),
+        Settled::Overflow(_stuck, _spent) => settle_total(alloc, asked, &problem),
+        Settled::NoMemory => Err(JudgeFault::NoMemory),
+    }
+}
+
+/// The same by a search that never stops before each atom has a truth.
+fn settle_total(alloc: Global, asked: &Asked, problem: &Problem) -> Result<Verdict, JudgeFault>
+    requires controller_in { IsController asked.now.controller }
+    requires question_in { IsQuestion (length asked.now.controller.states) asked.now.question }
+    requires problem_in { IsProblemOf asked.now.controller asked.now.question problem.now }
+    ensures { Concludes asked.now.controller asked.now.question result }
+{
+    let decided = decide_total(alloc, problem, asked.question.setting.budget);
+    match confirmed(asked, problem, decided) {
+        Settled::Verdict(verdict) => Ok(verdict),
+        Settled::Overflow(stuck, spent) => Ok(Verdict::Wide(stuck, spent)),
+        Settled::NoMemory => Err(JudgeFault::NoMemory),
+    }
+}
+
+/// What an answer about a problem comes to.
+#[derive(Debug, Drop)]
+enum Settled {
+    Verdict(Verdict),
+    /// The run of a model is found, and an operation of its replay has a result past 128 bits.
+    Overflow(Stuck, Spent),
+    NoMemory,
+}
+
+/// What an answer about a problem comes to.
+fn confirmed(asked: &Asked, problem: &Problem, decided: Decided) -> Settled
+    requires controller_in { IsController asked.now.controller }
+    requires question_in { IsQuestion (length asked.now.controller.states) asked.now.question }
+    requires problem_in { IsProblemOf asked.now.controller asked.now.question problem.now }
+    requires decides { Decides problem.now asked.now.question.setting.budget decided }
+    ensures { Settles asked.now.controller asked.now.question problem.now decided result }
+{
+    match decided {
+        Decided::Model(run, spent) => replayed(asked, problem.shape, run, spent),
+        Decided::Closed(cert) => Settled::Verdict(Verdict::Verified(cert)),
+        Decided::Spent(spent) => Settled::Verdict(Verdict::Budget(spent)),
+        Decided::Stuck(stuck, spent) => Settled::Verdict(Verdict::Wide(stuck, spent)),
+        Decided::NoMemory => Settled::NoMemory,
     }
 }
 
 /// The verdict once a run is found: it violates the question, unless a weighing of its replay is stuck.
-fn replayed(asked: &Asked, shape: Shape, run: Run, spent: Spent) -> Verdict
+fn replayed(asked: &Asked, shape: Shape, run: Run, spent: Spent) -> Settled
     requires controller_in { IsController asked.now.controller }
     requires question_in { IsQuestion (length asked.now.controller.states) asked.now.question }
     requires violation { IsViolation asked.now.controller asked.now.question run }
@@ -144,8 +186,8 @@ fn replayed(asked: &Asked, shape: Shape, run: Run, spent: Spent) -> Verdict
     ensures { IsReplayed asked.now.controller asked.now.question shape run spent result }
 {
     match replay(&asked.controller, &asked.question, &run) {
-        Replayed::Wide(stuck) => Verdict::Wide(stuck, spent),
+        Replayed::Wide(stuck) => Settled::Overflow(stuck, spent),
         // A violation is found to be one, or its replay is stuck.
-        _ => Verdict::Violated(shape, run),
+        _ => Settled::Verdict(Verdict::Violated(shape, run)),
     }
 }

@@ -7,5 +7,5 @@ mod judging;
 #[cfg(test)]
 mod tests;
 
-pub use deciding::{Decided, decide};
+pub use deciding::{Decided, decide, decide_total};
 pub use judging::{JudgeFault, Verdict, conclude, judge};
