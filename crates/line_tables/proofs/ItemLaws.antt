@@ -1,7 +1,5 @@
 -- The items of a line are taken one after another, and their numbers come behind those that were taken before.
-use Rattle.std.proofs.Common.{◌≡◌, ℕ, zero, suc, add-one, unsigned_abs, ◌+◌, ◌-◌, ◌<◌, ◌≤◌, ℤ, Result, Ok, Err, List, [], ◌∷◌, ◌++◌, drop, get_or, length, map, refl, sym, ap, ◌∙◌, append_assoc, arith}
-use Rattle.std.proofs.lemmas.List.{append-nil}
-use Rattle.std.proofs.Math.Seq.{drop-cons}
+use Rattle.std.proofs.Common.{◌≡◌, ℕ, zero, suc, unsigned_abs, ◌+◌, ◌-◌, ◌<◌, ◌≤◌, ℤ, Result, Ok, Err, List, [], ◌∷◌, ◌++◌, drop, length, map, refl, sym, ap, ◌∙◌, append_assoc, arith}
 use Rattle.std.proofs.Math.ListN.{drop_of_length-le}
 use Rattle.std.specs.Fmt.{signed_decimal}
 use Rattle.text_lines.specs.Steps.{◌>>=◌}
@@ -9,7 +7,7 @@ use Rattle.text_machine.specs.declared.faults.Fault.{Fault}
 use Rattle.text_machine.specs.declared.lists.LineFault.{LineFault}
 use Rattle.text_machine.specs.declared.lists.LineFault.TheVariants.{Item as OfItem, NoMemory}
 use Rattle.text_machine.specs.Items.{Want, natural, whole}
-use Rattle.text_machine.specs.Lines.{LineForm, stop, number, times, take, take_end, spell_line, Suits, read_line}
+use Rattle.text_machine.specs.Lines.{LineForm, number, times, take, take_end, spell_line, Suits, read_line}
 use Rattle.text_machine.specs.Given.{FailsLine}
 use Rattle.line_tables.specs.declared.tables.Item.{Item}
 use Rattle.line_tables.specs.declared.tables.Item.TheVariants.{Natural, Whole, Wholes}
@@ -32,15 +30,7 @@ pub number_failed : (want : Want) (form : ℤ → LineForm) (front : List ℤ) (
 unfolding read_line
 number_failed want form front items f e = ap (λ (r : Result (ℤ × List (List ℕ)) Fault). onto front (r >>= λ x. read_line (form x.0) x.1 >>= λ zs. Ok (x.0 ∷ zs))) e
 
--- ---- items of several kinds
-
-pub nothing_left : (front : List ℤ) (items : List (List ℕ)) (zs : List ℤ) → take_end items ≡ Ok [] → onto front (read_line stop items) ≡ Ok front
-unfolding read_line
-nothing_left front items zs e = ap (onto front) e ∙ ap (λ (ys : List ℤ). Ok ys) (append-nil front)
-
-pub onto_nothing : (found : Result (List ℤ) Fault) → onto [] found ≡ found
-onto_nothing (Ok zs) = refl
-onto_nothing (Err f) = refl
+-- ---- a fault of what is still read is one of what is read in all
 
 pub fails_along : (fault : LineFault) (x y : Result (List ℤ) Fault) → x ≡ y → FailsLine fault y → FailsLine fault x
 fails_along NoMemory x y e f = tt
@@ -54,18 +44,7 @@ one_of_times count i form front items lt =
     let more : count - i ≡ suc (count - (i + 1)) = omega arith in
     ap (λ n. onto front (read_line (times n whole form) items)) more
 
-pub none_of_times : (count i : ℕ) (form : LineForm) (front : List ℤ) (items : List (List ℕ)) → count ≤ i → onto front (read_line (times (count - i) whole form) items) ≡ onto front (read_line form items)
-none_of_times count i form front items le =
-    let none : count - i ≡ 0 = omega arith in
-    ap (λ n. onto front (read_line (times n whole form) items)) none
-
 -- ---- the kinds, one after another
-
-pub next_kind : (kinds : List Item) (i : ℕ) (kind : Item) (front : List ℤ) (items : List (List ℕ)) → i < length kinds → kind ≡ get_or kinds i kind
-    → onto front (read_line (form_of (drop i kinds)) items) ≡ onto front (read_line (form_of (kind ∷ drop (i + 1) kinds)) items)
-next_kind kinds i kind front items lt is =
-    let step : drop i kinds ≡ kind ∷ drop (i + 1) kinds = rw (add-one, drop-cons kinds i kind, ← is) refl in
-    ap (λ (left : List Item). onto front (read_line (form_of left) items)) step
 
 pub last_kind : (kinds : List Item) (i : ℕ) (front : List ℤ) (items : List (List ℕ)) → length kinds ≤ i → onto front (read_line (form_of (drop i kinds)) items) ≡ onto front (take_end items)
 unfolding form_of read_line

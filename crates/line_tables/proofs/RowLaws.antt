@@ -18,7 +18,7 @@ use Rattle.line_tables.specs.declared.tables.Line.{Line}
 use Rattle.line_tables.specs.declared.tables.Row.{Row}
 use Rattle.line_tables.specs.declared.spots.Spot.{Spot}
 use Rattle.line_tables.specs.declared.spots.Spot.TheVariants.{Start, Body, Done}
-use Rattle.line_tables.specs.Tables.{Rule, rule_at, rules_of, words, AreWords, form_of, may_stand, leads_by, form_at, line_with, line_by, line_form, form_in, leads, format, numbers, row_items, row_texts}
+use Rattle.line_tables.specs.Tables.{Rule, rule_at, rules_of, words, AreWords, form_of, may_stand, form_at, line_with, line_by, line_form, form_in, leads, format, numbers, row_items, row_texts}
 use Rattle.line_tables.proofs.ItemLaws.{kinds_spelled}
 
 -- ---- the word of a line
@@ -77,9 +77,6 @@ row_fails (OfItem f) rules ok s i r items rest taken is e =
     ∙ ap (λ (q : Rule). read_line (form_at q s) rest >>= λ zs. Ok (pos i ∷ zs)) (sym is)
     ∙ ap (λ (found : Result (List ℤ) Fault). found >>= λ zs. Ok (pos i ∷ zs)) e
 
-pub row_leads : (rules : List Rule) (s t : Spot) (i : ℕ) (r : Rule) (zs : List ℤ) → r ≡ rule_at rules i → t ≡ leads_by r.place zs s → t ≡ leads rules s (pos i ∷ zs)
-row_leads rules s t i r zs is e = e ∙ ap (λ (q : Rule). leads_by q.place zs s) is
-
 pub has_form : (rules : List Rule) (s : Spot) → (s ≡ Start) ⊎ ((version : ℕ) × (depth : ℕ) × (s ≡ Body version depth)) → form_in rules s ≡ Some (line_form rules s)
 has_form rules s (inl e) = ap (form_in rules) e ∙ ap (λ (u : Spot). Some (line_form rules u)) (sym e)
 has_form rules s (inr (version, depth, e)) = ap (form_in rules) e ∙ ap (λ (u : Spot). Some (line_form rules u)) (sym e)
@@ -89,9 +86,6 @@ has_form rules s (inr (version, depth, e)) = ap (form_in rules) e ∙ ap (λ (u 
 pub misplaced : (r : Rule) (s : Spot) (items : List (List ℕ)) → may_stand r.place s ≡ false → read_line (form_at r s) items ≡ Err Misplaced
 unfolding read_line
 misplaced r s items e = ap (λ t. read_line (cond t (form_of r.items) (fails Misplaced)) items) e
-
-pub placed : (r : Rule) (s : Spot) (items : List (List ℕ)) → may_stand r.place s ≡ true → read_line (form_at r s) items ≡ read_line (form_of r.items) items
-placed r s items e = ap (λ t. read_line (cond t (form_of r.items) (fails Misplaced)) items) e
 
 -- ---- rows are spelled
 
