@@ -1,5 +1,5 @@
 -- No fault is one of texts that are accepted and whose problem is converted.
-use Rattle.std.proofs.Common.{◌≡◌, ℕ, ◌≤◌, List, Result, Ok, Err, length, refl}
+use Rattle.std.proofs.Common.{◌≡◌, ℕ, List, Result, Ok, Err, length, refl, subst}
 use Rattle.std.specs.Prelude.{IsOk}
 use Rattle.run_rows.specs.Columns.{entries_of}
 use Rattle.ctrl_types.specs.declared.controllers.Controller.{Controller}
@@ -19,7 +19,7 @@ use Rattle.verdict.specs.declared.judging.Verdict.{Verdict}
 
 converted_or_large : (p : Result Clauses What) (what : What) → IsOk p → p ≡ Err what → ⊥
 converted_or_large (Ok clauses) what ok large = cc
-converted_or_large (Err other) what ok large = ok
+converted_or_large (Err other) what ok large = cc
 
 module _ (controller question : List ℕ) where
   pub no_fault : ((f : AskFault) → AskFails controller question f → f ≡ asking.NoMemory)
@@ -42,3 +42,14 @@ module _ (controller question : List ℕ) where
   no_other never (fault.Question r) judged = absurd (never (fault.Question r) judged)
   no_other never (fault.Large what limit) judged = absurd (never (fault.Large what limit) judged)
   no_other never fault.NoMemory judged = refl
+
+-- the same of texts that are these
+pub judged_as : (texts : List ℕ) (about : List ℕ) (controller question : List ℕ) → controller ≡ texts → question ≡ about → (r : Result Verdict JudgeFault)
+    → Judges controller question r → Judges texts about r
+judged_as texts about controller question same same_about r judged =
+    subst (λ bytes. Judges texts bytes r) same_about (subst (λ bytes. Judges bytes question r) same judged)
+
+pub only_memory : (texts : List ℕ) (about : List ℕ) (controller question : List ℕ) → controller ≡ texts → question ≡ about
+    → ((f : JudgeFault) → Refuses texts about f → ⊥) → (f : JudgeFault) → Judges controller question (Err f) → f ≡ fault.NoMemory
+only_memory texts about controller question same same_about never f judged =
+    no_other texts about never f (judged_as texts about controller question same same_about (Err f) judged)

@@ -21,6 +21,8 @@ pub fn judge_drawn(alloc: Global, seed: u64, size: u32) -> Result<Verdict, NoMem
     match judge(alloc, controller.as_slice(), question.as_slice()) {
         Ok(verdict) => Ok(verdict),
         Err(JudgeFault::NoMemory) => Err(NoMemory),
-        Err(_) => unreachable!(),
+        Err(JudgeFault::Controller(_)) => unreachable!(),
+        Err(JudgeFault::Question(_)) => unreachable!(),
+        Err(JudgeFault::Large { .. }) => unreachable!(),
     }
 }

@@ -1,4 +1,3 @@
-use Rattle.std.proofs.Common.{◌≡◌}
 use Rattle.ctrl_gen.specs.Problems.{controller_text, question_text}
 use Rattle.made_verdicts.proofs.NeverRefused.{no_fault}
 use Rattle.made_verdicts.proofs.laws.drawn_problems_are_judged.Goals as goal
