@@ -3,3 +3,4 @@ pub mod ModelLaws
 pub mod CountLaws
 pub mod SolveLaws
 pub mod CoefficientLaws
+pub mod TestLaws

@@ -3,7 +3,7 @@ ghost use Rattle.std.specs.Prelude.{◌≡◌, [], ◌∷◌, IfOk};
 ghost use Rattle.cert_check.specs.Examples.{problem};
 ghost use Rattle.clause_form.specs.WellFormed.{IsWellFormed};
 
-use crate::{Solved, solve};
+use crate::{Solved, solve, solve_total};
 use cert_check::{Checked, check};
 use clause_form::{Atom, Clauses};
 use farkas_cert::{Lit, Lits};
@@ -60,6 +60,64 @@ fn closed(alloc: Global) -> Result<Clauses, NoMemory>
     ensures { IfOk result IsWellFormed }
 {
     problem(alloc, 1, false)
+}
+
+// x is at most 0, or above 1.
+#[tactic(auto, using(whole::proofs::Overflow::signed, crate::proofs::TestLaws::either_formed))]
+fn either(alloc: Global) -> Result<Clauses, NoMemory>
+    ensures { IfOk result IsWellFormed }
+{
+    let Clauses {
+        columns,
+        forms,
+        atoms,
+        clauses: _both,
+    } = problem(alloc, 1, false)?;
+    let first = Lit {
+        atom: 0,
+        positive: true,
+    };
+    let second = Lit {
+        atom: 1,
+        positive: false,
+    };
+    let mut clauses = Items::new(alloc);
+    clauses.push(Lits::from_vec(Vec::from_slice(alloc, &[first, second])?))?;
+    Ok(Clauses {
+        columns,
+        forms,
+        atoms,
+        clauses,
+    })
+}
+
+// Where x is 0 the clause holds, so the first corner is a model, and no atom is told. Both rows hold there.
+#[test]
+fn a_corner_that_is_a_model_needs_no_move(rt: HostRuntime) -> Result<(), Fail> {
+    let alloc = rt.alloc();
+    let clauses = either(alloc).expect(&rt, "memory");
+    match solve(alloc, &clauses, 0) {
+        Solved::Model(values, truths, spent) => {
+            assert_eq!(rt; values.over, 1);
+            assert_eq!(rt; values.values.as_slice(), [0].as_slice());
+            assert_eq!(rt; truths.as_slice(), [true, true].as_slice());
+            assert_eq!(rt; spent.journal.moves.len(), 0);
+        }
+        other => assert!(rt; false, "{other:?}"),
+    }
+    Ok(())
+}
+
+// A search that tells each atom needs a move for each of them.
+#[test]
+fn a_search_that_never_stops_tells_each_atom(rt: HostRuntime) -> Result<(), Fail> {
+    let alloc = rt.alloc();
+    let clauses = either(alloc).expect(&rt, "memory");
+    match solve_total(alloc, &clauses, 1) {
+        Solved::Spent(spent) => assert_eq!(rt; spent.journal.moves.len(), 1),
+        other => assert!(rt; false, "{other:?}"),
+    }
+    Ok(())
 }
 
 // Both unit clauses give their literals, and then all is told: two moves, which may be the whole budget.

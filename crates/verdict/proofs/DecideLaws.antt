@@ -5,10 +5,7 @@ use Rattle.clause_form.specs.WellFormed.{IsWellFormed}
 use Rattle.clause_form.specs.declared.clauses.Clauses.{Clauses}
 use Rattle.corner_values.specs.declared.answer.Values.{Values}
 use Rattle.run_rows.specs.declared.rows.Run.{Run}
-use Rattle.fraction.specs.declared.mixed.MixedFrac.{MixedFrac}
-use Rattle.clause_form.specs.Journals.{Reached}
-use Rattle.lra_theory.specs.States.{State}
-use Rattle.lra_solve.specs.Solving.{AreModelAt, IsFound, IsLightProof, Solves, SolvesWith}
+use Rattle.lra_solve.specs.Solving.{IsFound, IsLightProof, Solves, SolvesWith}
 use Rattle.lra_solve.specs.declared.solved.Solved.{Solved}
 use Rattle.lra_solve.specs.declared.solved.Solved.TheVariants as solved
 use Rattle.lra_solve.specs.declared.solved.Spent.{Spent}
@@ -28,12 +25,10 @@ proof_certificate c budget cert formed light = record {
   within = light_within c cert formed light.proves light.few light.light;
 }
 
--- the values of a model that a search found, in the clauses' columns
-pub model_at : (c : Clauses) (budget : ℕ) (found : Solved) (values : Values) (truths : List Bool) (spent : Spent) → found ≡ solved.Model values truths spent
-    → Solves c budget found → (place : Reached (State MixedFrac)) × AreModelAt c budget values truths place
-model_at c budget found values truths spent is solves =
-    let model : IsFound c budget values truths spent = subst (λ (s : Solved). Solves c budget s) is solves in
-    (model.place, model.is_model)
+-- a model that a search found
+pub model_found : (c : Clauses) (budget : ℕ) (found : Solved) (values : Values) (truths : List Bool) (spent : Spent) → found ≡ solved.Model values truths spent
+    → Solves c budget found → IsFound c budget values truths spent
+model_found c budget found values truths spent is solves = subst (λ (s : Solved). Solves c budget s) is solves
 
 module _ (p : Problem) (budget : ℕ) (Found : Values → List Bool → Spent → Type 0) where
   run_law : (values : Values) (truths : List Bool) (spent : Spent) (answer : Decided) → Found values truths spent → RunsAt p values spent answer

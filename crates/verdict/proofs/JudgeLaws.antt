@@ -20,7 +20,6 @@ use Rattle.clause_form.specs.Answers.{Fails}
 use Rattle.clause_form.specs.WellFormed.{IsWellFormed}
 use Rattle.clause_form.specs.declared.clauses.BuildFault.{BuildFault}
 use Rattle.clause_form.specs.declared.clauses.BuildFault.TheVariants.{Large, NoMemory as OutOfMemory}
-use Rattle.clause_form.specs.declared.clauses.Clauses.{Clauses}
 use Rattle.cert_check.specs.Verdicts.{proved}
 use Rattle.cert_check.specs.Verdicts as checks
 use Rattle.cert_check.proofs.VerdictLaws.{each_has_a_verdict}

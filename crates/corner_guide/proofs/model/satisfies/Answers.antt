@@ -1,6 +1,5 @@
-use Rattle.std.proofs.Common.{List, ◌∙◌, subst, sym, take, get_or}
+use Rattle.std.proofs.Common.{◌∙◌, subst, sym, take, get_or}
 use Rattle.std.proofs.lemmas.List.{take_more}
-use Rattle.farkas_cert.specs.declared.literals.Lit.{Lit}
 use Rattle.clause_form.specs.Models.{HasTrue, Satisfies}
 use Rattle.clause_search.specs.Answers.{truth_in}
 use Rattle.corner_guide.proofs.TruthLaws.{satisfies_more}

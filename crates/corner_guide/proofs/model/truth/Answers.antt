@@ -1,4 +1,4 @@
-use Rattle.std.proofs.Common.{FitsSigned, to_z-of_z, rules, ◌∙◌, ℤ, List, subst, ◌≡◌}
+use Rattle.std.proofs.Common.{FitsSigned, to_z-of_z, rules, ◌≡◌}
 use Rattle.std.specs.Int.{w128}
 use Rattle.linear_form.specs.Sums.{entry}
 use Rattle.corner_guide.proofs.TruthLaws.{row_agrees}

@@ -1,7 +1,5 @@
-use Rattle.std.proofs.Common.{List, Bool, false, pos, ◌≡◌, ◌+◌, unsigned_abs, length, subst, sym, take, get_or, arith}
-use Rattle.std.proofs.lemmas.List.{take_more, take_all}
+use Rattle.std.proofs.Common.{false, pos, ◌+◌, unsigned_abs, subst, sym, take}
 use Rattle.linear_form.specs.Sums.{entry}
-use Rattle.clause_form.specs.declared.clauses.Atom.{Atom}
 use Rattle.clause_form.specs.declared.clauses.Atom.TheVariants.{Row}
 use Rattle.corner_guide.proofs.TruthLaws.{AgreeAll, agree_count, agree_next, rows_agree, agree_all}
 use Rattle.corner_guide.proofs.model.truths.Goals as goal
