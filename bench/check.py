@@ -6,6 +6,7 @@ Without options it takes the generated texts of bench/kept, with seeds and sizes
 given to `ccac audit` and each trace to `ccac replay`, through files, as a user would; where one of them disagrees, or a
 solver contradicts the verdict, the script ends with status 1. The other solvers (z3 and cvc5, each where it is found) get
 the same problem as SMT-LIB text, as the program `problem_smt` writes it; with `--proofs` they write their proofs too.
+With `--moves` the moves of a decided problem are found: they are the least budget with which it is decided still.
 Times are whole calls, start-up included, the median of some runs. It is a measurement, and a test of agreement.
 
 First comes a row for each problem (not with `--short`), then a table with a row for each size, and one for the examples.
@@ -54,6 +55,7 @@ class Row:
     pivots: str = ""
     lemmas: str = ""
     certificate: str = ""
+    moves: int = 0
     ours: float = 0.0
     second: float = 0.0
     theirs: dict = field(default_factory=dict)
@@ -94,6 +96,19 @@ def confirmed(row, texts, report, place, options):
         row.faults.append(f"{command} answers {answer and answer[:2]}")
     else:
         row.second = answer[2]
+
+
+def least_budget(texts, place, options):
+    """The least budget with which a decided problem is decided still. No report has the moves of a decided problem, but the search
+    is the same with each budget, so this is how many moves it was charged."""
+    question, tried = Path(texts[1]).read_text(), place / "tried.question"
+    low, high = 1, int(re.search(r"^budget (\d+)$", question, re.MULTILINE)[1])
+    while low < high:
+        budget = (low + high) // 2
+        tried.write_text(re.sub(r"^budget \d+$", f"budget {budget}", question, flags=re.MULTILINE))
+        answer = called([options.ccac, "check", texts[0], tried], 1, options.limit)
+        low, high = (low, budget) if answer and answer[1] in (0, 1) else (budget + 1, high)
+    return high
 
 
 def ask_others(row, texts, place, options, solvers):
@@ -142,18 +157,19 @@ def measured(problem, place, options, solvers):
         row.faults.append(f"check answers {row.verdict}, and not {problem.known}")
     elif row.verdict in SAYS:
         confirmed(row, texts, report, place, options)
+        row.moves = least_budget(texts, place, options) if options.moves else 0
     if solvers:
         ask_others(row, texts, place, options, solvers)
     return row
 
 
 def show(rows, solvers, firsts):
-    heads = [*firsts, "Verdict", "Decisions", "Propagated", "Pivots", "Lemmas", "Bytes", "ccac, ms"]
+    heads = [*firsts, "Verdict", "Decisions", "Propagated", "Pivots", "Lemmas", "Bytes", "Moves", "ccac, ms"]
     heads += [head for name in solvers for head in (f"{name}, ms", f"ccac / {name}")]
     print("| " + " | ".join(heads) + " |")
     print("|" + "---|" * len(heads))
     for row in rows:
-        cells = [*row.names, row.verdict, row.decisions, row.propagations, row.pivots, row.lemmas, row.certificate]
+        cells = [*row.names, row.verdict, row.decisions, row.propagations, row.pivots, row.lemmas, row.certificate, row.moves or ""]
         cells.append(f"{row.ours * 1e3:.1f}")
         for name in solvers:
             theirs = row.theirs.get(name)
@@ -179,6 +195,7 @@ def summary(group, here, solvers):
     for verdict in SAYS:
         cells.append(median([row.second / row.ours for row in decided if row.verdict == verdict and row.second], "{:.2f}"))
     cells.append(with_most([int(row.certificate) for row in decided if row.certificate]))
+    cells.append(with_most([row.moves for row in decided if row.moves]))
     for name in solvers:
         ratios = [row.ours / row.theirs[name] for row in decided if name in row.theirs]
         cells.append(f"{statistics.median(ratios):.3f} ({max(ratios):.2f})" if ratios else "")
@@ -189,7 +206,7 @@ def summary(group, here, solvers):
 
 def summed_up(rows, solvers):
     """A row for each size and for the examples, and one for all."""
-    heads = ["Problems", "Decided", "ccac, ms (most)", "audit / check", "replay / check", "Certificate, bytes (most)"]
+    heads = ["Problems", "Decided", "ccac, ms (most)", "audit / check", "replay / check", "Certificate, bytes (most)", "Moves (most)"]
     for name in solvers:
         heads += [f"ccac / {name} (most)", f"slower than {name}", f"certificate / {name}'s proof"]
     print("| " + " | ".join(heads) + " |")
@@ -228,6 +245,7 @@ def main():
     parser.add_argument("--examples", action="store_true", help="the pairs of examples/README.md, beside the generated ones where seeds are given")
     parser.add_argument("--seeds", help="seeds to generate, as 1-20 or 1,5,19 (else the kept texts)")
     parser.add_argument("--proofs", action="store_true", help="let the other solvers write their proofs too")
+    parser.add_argument("--moves", action="store_true", help="find how many moves each decided problem takes, by some ten calls more")
     parser.add_argument("--short", action="store_true", help="the last table alone")
     parser.add_argument("--sizes", default="1,8,32", help="sizes to generate, 1 to 32")
     parser.add_argument("--times", type=int, default=3, help="calls of which the median time is taken")
