@@ -36,6 +36,8 @@ use whole::NoMemory;
 pub struct CornerGuide {
     alloc: Global,
     definitions: Definitions,
+    /// A clause that was false at the corner when it was last looked at.
+    suspect: u32,
     model: Option<CornerModel>,
 }
 
@@ -54,6 +56,7 @@ impl CornerGuide {
         Ok(CornerGuide {
             alloc,
             definitions: Definitions::new(alloc, clauses)?,
+            suspect: 0,
             model: None,
         })
     }
@@ -65,6 +68,7 @@ impl CornerGuide {
         let CornerGuide {
             alloc: _,
             definitions: _,
+            suspect: _,
             model,
         } = self;
         model
@@ -89,7 +93,13 @@ impl<F: OrderedField> Guide<Lra<F>> for CornerGuide {
         let Ok(outlook) = Outlook::new(self.alloc, clauses, &self.definitions, trail, theory) else {
             return Advice::Nothing;
         };
-        if let Some(model) = corner_model(self.alloc, clauses, &outlook, theory) {
+        if let Some(model) = corner_model(
+            self.alloc,
+            clauses,
+            &outlook,
+            theory,
+            &mut self.suspect,
+        ) {
             self.model = Some(model);
             return Advice::Stop;
         }
@@ -121,16 +131,12 @@ fn wanted_of_lemmas<F: OrderedField>(outlook: &Outlook<F>, lemmas: &[Lemma]) -> 
 
 /// The least violated literal of a clause that isn't true.
 pub(crate) fn nearest<F: OrderedField>(outlook: &Outlook<F>, clause: &[Lit]) -> Option<Lit> {
-    if is_true(outlook, clause) {
+    if is_true(outlook, clause) || holds(outlook, clause) {
         return None;
     }
     let mut best = None;
     for lit in clause {
-        let distance = outlook.distance(*lit, DEEPEST);
-        if distance.is_true() {
-            return None;
-        }
-        best = closer(best, *lit, distance);
+        best = closer(best, *lit, outlook.distance(*lit, DEEPEST));
     }
     literal_of(best)
 }
@@ -170,6 +176,16 @@ fn is_true<F: OrderedField>(outlook: &Outlook<F>, clause: &[Lit]) -> bool {
     false
 }
 
+// Whether a literal of the clause is true at the corner.
+fn holds<F: OrderedField>(outlook: &Outlook<F>, clause: &[Lit]) -> bool {
+    for lit in clause {
+        if outlook.holds(*lit, DEEPEST) {
+            return true;
+        }
+    }
+    false
+}
+
 // A name is decided by one of its parts that isn't true.
 fn descend<F: OrderedField>(outlook: &Outlook<F>, from: Lit) -> Lit {
     let mut lit = from;
@@ -195,7 +211,7 @@ fn part_of<F: OrderedField>(outlook: &Outlook<F>, lit: Lit) -> Option<Lit> {
 fn first_false<F: OrderedField>(outlook: &Outlook<F>, parts: Parts) -> Option<Lit> {
     for part in parts.rest {
         let part = parts.signed(*part);
-        if !outlook.distance(part, DEEPEST).is_true() {
+        if !outlook.holds(part, DEEPEST) {
             return Some(part);
         }
     }

@@ -1,5 +1,5 @@
 // Is the corner a model, with an epsilon put in for the infinitesimal?
-ghost use Rattle.std.specs.Prelude.{◌≡◌, true, length, pos, ◌≤ℤ◌, All, IfSome, unsigned_abs};
+ghost use Rattle.std.specs.Prelude.{◌≡◌, true, length, pos, ◌≤ℤ◌, All, IfNone, IfSome, unsigned_abs};
 ghost use Rattle.whole.specs.Numbers.{IsWithin};
 ghost use Rattle.linear_form.specs.Sums.{entry};
 ghost use Rattle.clause_form.specs.Derivations.{rows_of};
@@ -10,7 +10,7 @@ ghost use Rattle.lra_theory.specs.Standings.{seen};
 ghost use Rattle.corner_guide.specs.Models.{IsCornerModel};
 ghost use Rattle.corner_guide.specs.Truths.{Agrees};
 
-use crate::outlook::Outlook;
+use crate::outlook::{DEEPEST, Outlook};
 use crate::rows::row_holds;
 use clause_form::{Atom, Clauses};
 use farkas_cert::{Lit, Lits};
@@ -29,11 +29,15 @@ pub struct CornerModel {
 /// The model at the corner, if each clause is true there. An atom of a row is as true as its row at the
 /// corner's values, and a name off the trail as its formula. None also where a number is too wide, or
 /// memory runs out.
+///
+/// The suspect is the clause that is looked at first: mostly it is false still, and then no other is.
+/// It becomes the first one that is false.
 pub(crate) fn corner_model<F: OrderedField>(
     alloc: Global,
     clauses: &Clauses,
     outlook: &Outlook<F>,
     theory: &Lra<F>,
+    suspect: &mut u32,
 ) -> Option<CornerModel>
     requires formed { IsWellFormed clauses.now }
     requires rows { (seen F.value theory.now).rows ≡ rows_of clauses.now }
@@ -43,11 +47,82 @@ pub(crate) fn corner_model<F: OrderedField>(
     let Ok(values) = theory.values() else {
         return None;
     };
-    let truths = truths(alloc, clauses, outlook, &values)?;
-    if !satisfies(clauses.clauses.as_slice(), truths.as_slice()) {
+    if is_false(clauses, outlook, &values, *suspect) {
         return None;
     }
-    Some(CornerModel { values, truths })
+    let truths = truths(alloc, clauses, outlook, &values)?;
+    match first_false(clauses.clauses.as_slice(), truths.as_slice()) {
+        Some(number) => {
+            *suspect = number;
+            None
+        }
+        None => Some(CornerModel { values, truths }),
+    }
+}
+
+// Whether the clause with this number is seen to be false at these values.
+fn is_false<F: OrderedField>(
+    clauses: &Clauses,
+    outlook: &Outlook<F>,
+    values: &Values,
+    number: u32,
+) -> bool
+    requires formed { IsWellFormed clauses.now }
+    requires count { length values.now.values ≡ clauses.now.columns }
+    requires each_in { All IsWithin values.now.values }
+{
+    let Some(clause) = clauses.clauses.as_slice().get(number as usize) else {
+        return false;
+    };
+    for lit in clause.as_slice() {
+        if truth_at(clauses, outlook, values, lit.atom, DEEPEST) != Some(!lit.positive) {
+            return false;
+        }
+    }
+    true
+}
+
+// The truth of one atom at these values. None where a number is too wide, or a name too deep.
+fn truth_at<F: OrderedField>(
+    clauses: &Clauses,
+    outlook: &Outlook<F>,
+    values: &Values,
+    atom: u32,
+    depth: u32,
+) -> Option<bool>
+    requires formed { IsWellFormed clauses.now }
+    requires count { length values.now.values ≡ clauses.now.columns }
+    requires each_in { All IsWithin values.now.values }
+{
+    let name = Lit {
+        atom,
+        positive: true,
+    };
+    if let Some(truth) = outlook.truth(name) {
+        return Some(truth);
+    }
+    if let Atom::Row {
+        form,
+        num,
+        den,
+        strict,
+    } = clauses.atoms.get(atom as usize)?
+    {
+        let whole = values.values.as_slice();
+        return row_holds(clauses, whole, values.over, *form, *num, *den, *strict);
+    }
+    if depth == 0 {
+        return None;
+    }
+    let parts = outlook.parts(name)?;
+    for part in parts.rest {
+        let part = parts.signed(*part);
+        let holds = truth_at(clauses, outlook, values, part.atom, depth - 1)? == part.positive;
+        if holds != parts.all {
+            return Some(holds);
+        }
+    }
+    Some(parts.all)
 }
 
 // The truths of the atoms at these values.
@@ -103,16 +178,18 @@ fn truth<F: OrderedField>(
     }
 }
 
-// Whether each clause has a true literal.
-fn satisfies(clauses: &[Lits], truths: &[bool]) -> bool
-    ensures { result ≡ true → Satisfies (truth_in truths.now) clauses.now }
+// The number of the first clause without a true literal.
+fn first_false(clauses: &[Lits], truths: &[bool]) -> Option<u32>
+    ensures { IfNone result (Satisfies (truth_in truths.now) clauses.now) }
 {
+    let mut number = 0u32;
     for clause in clauses {
         if !has_true(clause.as_slice(), truths) {
-            return false;
+            return Some(number);
         }
+        number = number.saturating_add(1);
     }
-    true
+    None
 }
 
 fn has_true(clause: &[Lit], truths: &[bool]) -> bool

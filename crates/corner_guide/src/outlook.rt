@@ -69,6 +69,26 @@ impl<'a, F: OrderedField> Outlook<'a, F> {
         }
     }
 
+    /// Whether a literal is true on the trail or at the corner: its distance is none.
+    pub(crate) fn holds(&self, lit: Lit, depth: u32) -> bool {
+        if let Some(truth) = self.truth(lit) {
+            return truth;
+        }
+        let Some(parts) = self.parts(lit) else {
+            return Distance::of_excess(self.theory.excess(lit)).is_true();
+        };
+        if depth == 0 {
+            return false;
+        }
+        for part in parts.rest {
+            let holds = self.holds(parts.signed(*part), depth - 1);
+            if holds != parts.all {
+                return holds;
+            }
+        }
+        parts.all
+    }
+
     /// How far a literal is from true: on the trail it is true or far; a row's is by its row, and a
     /// name's by its parts, the sum where all are wanted and else the least.
     pub(crate) fn distance(&self, lit: Lit, depth: u32) -> Distance<F> {

@@ -3,7 +3,7 @@ use Rattle.std.proofs.lemmas.List.{take_more}
 use Rattle.clause_form.specs.Models.{HasTrue, Satisfies}
 use Rattle.clause_search.specs.Answers.{truth_in}
 use Rattle.corner_guide.proofs.TruthLaws.{satisfies_more}
-use Rattle.corner_guide.proofs.model.satisfies.Goals as goal
+use Rattle.corner_guide.proofs.model.first_false.Goals as goal
 
 pub loop-clause-preserved : goal.loop-clause-preserved
 loop-clause-preserved c =
